@@ -4,6 +4,7 @@ pub mod NewPairs
 pub mod OtherKeys
 pub mod PairsByKey
 pub mod PutEach
+pub mod PutInPlace
 pub mod Replaced
 pub mod RunSteps
 pub mod SameStores

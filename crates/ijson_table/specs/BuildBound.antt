@@ -1,10 +1,6 @@
 -- The number of inspections that building a table of a list of pairs takes.
 use Rattle.std.specs.Prelude.{ℕ, ◌+◌, ◌*◌, ◌^◌, ◌≤◌}
 
--- the average number of steps per pair before sorting
-abbrev pub steps_a_pair : ℕ
-steps_a_pair = 32
-
 -- the number of inspections per pair, without those of sorting
 abbrev pub looks_a_pair : ℕ
 looks_a_pair = 36

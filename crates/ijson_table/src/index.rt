@@ -7,6 +7,7 @@
 //! - `probe`: the one walk over the slots, with which each lookup and each shift begins.
 //! - `forward`: the forward shift, in each representation.
 //! - `shift`: the moves of residents in insertion, removal and growth.
+//! - `add`: adding the keys of a list in order.
 //! - `fill`: filling a table from entries sorted by home slot.
 //! - `copy`: copying the slots to another number of slots.
 
@@ -23,6 +24,7 @@ ghost use Rattle.ijson_table.specs.private.KeptHash.{kept};
 ghost use Rattle.ijson_table.specs.private.Probe.{AreFull, Passed};
 ghost use Rattle.ijson_table.specs.private.SlotHashes.{position_in, HasHash};
 
+pub mod add;
 mod copy;
 pub mod fill;
 mod forward;

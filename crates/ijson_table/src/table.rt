@@ -4,18 +4,15 @@ ghost use Rattle.std.specs.Prelude.{◌≡◌, ◌≢◌, ◌+◌, ◌-◌, ◌<
 ghost use Rattle.std.specs.Prelude.{ℕ, List, Ok, Err, refl, is_some, IfOk, IsOk, IsTrue, OnErr, ◌↔◌, Some, None};
 ghost use Rattle.std.specs.Option.{option_copied};
 ghost use Rattle.ijson_table.specs.private.CopyBound.{IsCopyBounded};
-ghost use Rattle.ijson_table.specs.Crowd.{distance};
 ghost use Rattle.ijson_table.specs.Growth.{capacity_limit};
 ghost use Rattle.ijson_table.specs.Inserts.{Inserts};
-ghost use Rattle.ijson_table.specs.Slots.{resident, IsBounded, IsTable};
+ghost use Rattle.ijson_table.specs.Slots.{IsBounded, IsTable};
 ghost use Rattle.ijson_table.specs.Store.{at, keys_of, IsDistinct, lookup, with_key};
 ghost use Rattle.ijson_table.specs.PlacedWithValue.{placed_with_value};
 ghost use Rattle.ijson_table.specs.laws.Store.{IsDistinct-prop};
-ghost use Rattle.ijson_table.specs.private.Changes.{changes};
 ghost use Rattle.ijson_table.specs.private.Holds.{MayStand};
 ghost use Rattle.ijson_table.specs.private.KeptHash.{kept_hash, narrow_slots};
 ghost use Rattle.ijson_table.specs.private.Lookup.{LookUpEnds};
-ghost use Rattle.ijson_table.specs.private.Probe.{AreFull};
 ghost use Rattle.ijson_table.specs.private.Room.{IsResized};
 
 mod from_list;
@@ -261,10 +258,8 @@ impl<V: Drop, H: KeyHash> Table<V, H> {
     }
 
     /// Like `push_hashed`, at the slot at which the probe for the key ended.
-    ///
-    /// Returns the last slot written, which was the first empty one from `slot` on.
     #[inline(always)]
-    fn push_at(&mut self, slot: usize, key: IString, value: V, hash: u64) -> usize
+    fn push_at(&mut self, slot: usize, key: IString, value: V, hash: u64)
         requires missing { at self.old.store.pairs key ≡ None }
         requires hash { hash ≡ H.hash_of key }
         requires room { length self.old.store.pairs < self.old.store.capacity }
@@ -272,17 +267,12 @@ impl<V: Drop, H: KeyHash> Table<V, H> {
             (length (map H.hash_of (keys_of self.old.store.pairs))) slot }
         ensures pairs { self.new.store.pairs ≡ self.old.store.pairs ++ (key, value) ∷ [] }
         ensures capacity { self.new.store.capacity ≡ self.old.store.capacity }
-        ensures count { length self.new.slots ≡ length self.old.slots }
-        ensures within { result < length self.old.slots }
-        ensures empty { resident self.old.slots result ≡ None }
-        ensures passed { AreFull self.old.slots slot (distance (length self.old.slots) slot result) }
-        ensures changes { changes self.old.slots self.new.slots ≤ distance (length self.old.slots) slot result + 1 }
     {
         let position = self.pairs.len();
         // Before the entry is written, so that the compiler shares the division with `find`.
         let kept = Modulus::new(self.index.len()).kept_hash(hash);
         self.pairs.push_reserved((key, value));
-        self.index.push_at(slot, position, kept)
+        self.index.push_at(slot, position, kept);
     }
 }
 

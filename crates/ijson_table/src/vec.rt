@@ -1,6 +1,6 @@
 //! Lists with an exact capacity.
 
-ghost use Rattle.std.specs.Prelude.{◌≡◌, ◌<◌, ◌≤◌, [], length, take, drop, vec_capacity, IfOk, OnOk, OnErr};
+ghost use Rattle.std.specs.Prelude.{◌≡◌, ◌<◌, ◌≤◌, [], ◌++◌, length, take, drop, vec_capacity, IfOk, OnOk, OnErr};
 ghost use Rattle.ijson_table.specs.private.Room.{IsResized};
 
 use std::alloc::{AllocError, Global};
@@ -66,18 +66,12 @@ pub fn tighten<T: Drop>(alloc: Global, list: &mut Vec<T>) -> Result<(), AllocErr
     fit(alloc, list)
 }
 
-/// Splits off the items from index `at` on.
-///
-/// If there are none, it does not allocate. The list keeps its capacity. If the allocation fails, nothing changes.
-pub fn split_rest<T>(alloc: Global, list: &mut Vec<T>, at: usize) -> Result<Vec<T>, AllocError>
-    requires { at ≤ length list.old.items }
-    ensures rest { IfOk result (λ rest. rest.items ≡ drop at list.old.items) }
-    ensures kept { OnOk result (list.new.items ≡ take at list.old.items) }
+/// Removes the items from index `start` up to `end`.
+pub fn remove_range<T: Drop>(list: &mut Vec<T>, start: usize, end: usize)
+    requires start { start ≤ end }
+    requires end { end ≤ length list.old.items }
+    ensures items { list.new.items ≡ take start list.old.items ++ drop end list.old.items }
     ensures room { vec_capacity list.new ≡ vec_capacity list.old }
-    ensures refused { OnErr result (at < length list.old.items) }
 {
-    if at == list.len() {
-        return Ok(Vec::new(alloc));
-    }
-    list.split_off(at)
+    drop(list.drain(start..end));
 }

@@ -2,7 +2,7 @@
 use Rattle.std.proofs.Common.{◌≡◌, ℕ, ◌+◌, ◌%◌, ◌<◌, ◌≤◌, Bool, List, length, Option, None, arith, ap, sym, subst, ◌∙◌, inl, inr}
 use Rattle.std.proofs.lemmas.Bool.{cases_lt}
 use Rattle.std.proofs.lemmas.Nat.{mod_below}
-use Rattle.ijson_table.specs.declared.index.probe.Probed.TheVariants.{Found, Vacant, Full}
+use Rattle.ijson_table.specs.declared.index.probe.Probed.TheVariants.{Found, Vacant}
 use Rattle.ijson_table.specs.Crowd.{distance}
 use Rattle.ijson_table.specs.Slots.{displacement, resident}
 use Rattle.ijson_table.specs.private.Changes.{changes}
@@ -90,13 +90,3 @@ module _ (hash : List ℕ → ℕ) (keys : List (List ℕ)) (index : HashIndex) 
         walked = subst (λ x. Walks index keys x key looks (Found at p)) is walks;
         counted = omega (arith, ended.looked, changes-none index.slots, away_is, enough);
       }
-
-  -- A missing key if no slot is empty: each slot was inspected.
-  pub counts_full : (h : ℕ) (key : List ℕ) (looks steps : ℕ) → h ≡ hash key → Walks index keys h key looks Full → length index.slots ≤ steps
-      → CountsSteps hash keys key index index steps
-  counts_full h key looks steps is walks enough = record {
-    looks = looks;
-    end = Full;
-    walked = subst (λ x. Walks index keys x key looks Full) is walks;
-    counted = omega (arith, walks.2, changes-none index.slots, enough);
-  }

@@ -1,13 +1,10 @@
-use Rattle.std.proofs.Common.{None, ◌≡◌, ◌≤◌, ◌<◌, ◌+◌, [], ◌∷◌, ◌++◌, length, arith, ap, ap₂, sym, ◌∙◌, subst, refl, length-append}
+use Rattle.std.proofs.Common.{◌≡◌, ◌<◌, [], ◌∷◌, ◌++◌, length, arith, ap, ap₂, sym, ◌∙◌, subst, refl, length-append}
 use Rattle.std.specs.Prelude.{vec_capacity}
-use Rattle.ijson_table.specs.Crowd.{distance, slot_count}
+use Rattle.ijson_table.specs.Crowd.{slot_count}
 use Rattle.ijson_table.specs.Placed.{Placed}
-use Rattle.ijson_table.specs.Slots.{resident}
-use Rattle.ijson_table.specs.private.Changes.{changes}
 use Rattle.ijson_table.specs.Store.{keys_of}
 use Rattle.ijson_table.specs.private.Holds.{MayStand}
 use Rattle.ijson_table.specs.private.KeptHash.{kept, kept_hash}
-use Rattle.ijson_table.specs.private.Probe.{AreFull}
 use Rattle.ijson_table.proofs.pairs.Shown.{count_shown, hashes_in, pairs_shown, room_shown}
 use Rattle.ijson_table.proofs.pairs.NewPairs.{still_distinct}
 use Rattle.ijson_table.proofs.probing.KeyHashes.{hashes, hashes-push}
@@ -93,33 +90,12 @@ invariant_of-self g c =
       size = c.push_at.ensures.count ∙ (c.self.invariant.size ∙ ap slot_count (sym c.push_reserved.ensures.capacity));
     }
 
-pub returns-clause-changes : goal.returns-clause-changes
-returns-clause-changes g c =
-    subst (λ (t : Placed g.row.V.Denot). changes t.slots c.push_at.new.self.slots
-    ≤ distance (length t.slots) c.args.slot c.push_at.result + 1) c.self.view_is c.push_at.ensures.changes
-
-pub returns-clause-empty : goal.returns-clause-empty
-returns-clause-empty g c =
-    subst (λ (t : Placed g.row.V.Denot). resident t.slots c.push_at.result ≡ None) c.self.view_is c.push_at.ensures.empty
-
-pub returns-clause-passed : goal.returns-clause-passed
-returns-clause-passed g c =
-    subst (λ (t : Placed g.row.V.Denot). AreFull t.slots c.args.slot (distance (length t.slots) c.args.slot c.push_at.result))
-    c.self.view_is c.push_at.ensures.passed
-
 pub returns-clause-pairs : goal.returns-clause-pairs
 returns-clause-pairs g c = c.push_reserved.ensures.items
     ∙ ap (λ (t : Placed g.row.V.Denot). t.store.pairs ++ (c.args.key, c.args.value) ∷ []) c.self.view_is
 
 pub returns-clause-capacity : goal.returns-clause-capacity
 returns-clause-capacity g c = c.push_reserved.ensures.capacity ∙ room_shown c.self.view_is
-
-pub returns-clause-count : goal.returns-clause-count
-returns-clause-count g c = c.push_at.ensures.count ∙ ap (λ (t : Placed g.row.V.Denot). length t.slots) c.self.view_is
-
-pub returns-clause-within : goal.returns-clause-within
-returns-clause-within g c =
-    subst (λ (t : Placed g.row.V.Denot). c.push_at.result < length t.slots) c.self.view_is c.push_at.ensures.within
 
 pub new-requires : goal.new-requires
 new-requires g c = omega (arith, c.len.ensures.count, c.self.invariant.size, room g (goal.at.new-requires g c).After-len-position)

@@ -1,5 +1,5 @@
-use Rattle.std.proofs.Common.{◌≡◌, ◌⊎◌, inl, inr, ◌-◌, ◌<◌, ◌%◌, [], ℕ, List, length, get_or, take, arith, rules, ap, ap₂, refl, sym, subst, ◌∙◌}
-use Rattle.std.proofs.Common.{◌+◌, true≢false, length-take-le, le_of_lt}
+use Rattle.std.proofs.Common.{◌≡◌, ◌-◌, ◌<◌, ◌%◌, [], ℕ, List, length, get_or, take, arith, rules, ap, ap₂, refl, sym, subst, ◌∙◌}
+use Rattle.std.proofs.Common.{◌+◌, length-take-le, le_of_lt}
 use Rattle.std.proofs.lemmas.Grind.{common_steps}
 use Rattle.std.proofs.lemmas.Nat.{mod_below}
 use Rattle.ijson_table.specs.declared.index.probe.Probed.{Probed}
@@ -8,19 +8,18 @@ use Rattle.ijson_table.specs.Crowd.{distance}
 use Rattle.ijson_table.specs.Slots.{displacement}
 use Rattle.ijson_table.specs.Store.{at, keys_of}
 use Rattle.ijson_table.specs.private.CountedSteps.{CountsSteps, Walks}
-use Rattle.ijson_table.specs.private.FirstPlaced.{ComesAgain}
 use Rattle.ijson_table.specs.private.HashIndex.{HashIndex}
 use Rattle.ijson_table.specs.private.KeptHash.{kept, kept_hash}
-use Rattle.ijson_table.specs.private.Lookup.{is_hashed_key}
+use Rattle.ijson_table.specs.private.Lookup.{is_hashed_key, LookUpEnds}
 use Rattle.ijson_table.proofs.arithmetic.Circular.{distance-below}
-use Rattle.ijson_table.proofs.probing.FirstPairs.{comes_again, next_ends, next_placed}
-use Rattle.ijson_table.proofs.probing.StepsByEnd.{ended_found, counts_found, counts_full, counts_new}
+use Rattle.ijson_table.proofs.probing.FirstPairs.{first_ends, left_empty, next_ends, next_placed}
+use Rattle.ijson_table.proofs.probing.StepsByEnd.{ended_found, counts_found, counts_new}
 use Rattle.ijson_table.proofs.pairs.PairsByKey.{key_at}
 use Rattle.ijson_table.proofs.slots.KeptHashes.{home_of_kept, kept_once}
-use Rattle.ijson_table.proofs.table.from_list.add_new_key.Given.{Over}
-use Rattle.ijson_table.proofs.table.from_list.add_new_key.Goals.{After-probe_for, After-distance_between, After-distance_between-in-Found}
-use Rattle.ijson_table.proofs.probing.KeyHashes.{length-hashes}
-use Rattle.ijson_table.proofs.table.from_list.add_new_key.Goals as goal
+use Rattle.ijson_table.proofs.index.add.add_new_key.Given.{Over}
+use Rattle.ijson_table.proofs.index.add.add_new_key.Goals.{After-probe_for, After-distance_between, After-distance_between-in-Found}
+use Rattle.ijson_table.proofs.probing.KeyHashes.{hashes, length-hashes}
+use Rattle.ijson_table.proofs.index.add.add_new_key.Goals as goal
 
 -- the key of the pair
 keyed : (g : _) (c : After-probe_for g) → get_or (keys_of c.args.pairs.now) c.args.position [] ≡ c.as_str-key.result.now
@@ -40,13 +39,13 @@ walk : (g : _) (c : After-probe_for g) (end : Probed) → c.probe_for.result ≡
 walk g c end is = subst (Walks c.args.index.now (keys_of (take c.args.position c.args.pairs.now)) c.kept_hash-hash.result
     c.as_str-key.result.now (c.probe_for.new.looks - c.new.result)) is c.probe_for.ensures.ends
 
--- If a slot remains, a key without a vacancy is a duplicate,
-again : (g : _) (c : After-probe_for g) → ((x : ℕ) × (p : ℕ) × (c.probe_for.result ≡ Found x p)) ⊎ (c.probe_for.result ≡ Full)
-    → ComesAgain c.args.pairs.now c.args.position
-again g c is none = comes_again (short g c.args.index.now) c.args.pairs.now c.args.position c.args.index.now c.requires.placed
-    c.requires.within c.kept_hash-hash.result c.as_str-key.result.now (c.probe_for.new.looks - c.new.result) c.probe_for.result (kept_is g c)
-    c.probe_for.ensures.table c.requires.room (walk g c c.probe_for.result refl) is
-    (ap (at (take c.args.position c.args.pairs.now)) (sym (keyed g c)) ∙ none)
+-- It ends as among the first pairs,
+ends : (g : _) (c : After-probe_for g) (end : Probed) → c.probe_for.result ≡ end
+    → LookUpEnds (hashes (short g c.args.index.now) (take c.args.position c.args.pairs.now)) (keys_of (take c.args.position c.args.pairs.now))
+    c.args.index.now.slots (short g c.args.index.now c.as_str-key.result.now) c.as_str-key.result.now end
+ends g c end is = first_ends (short g c.args.index.now) c.args.pairs.now c.args.position c.args.index.now c.requires.placed
+    c.requires.within c.kept_hash-hash.result c.as_str-key.result.now (c.probe_for.new.looks - c.new.result) end (kept_is g c)
+    c.probe_for.ensures.table (omega (arith, c.requires.room)) (walk g c end is)
 
 -- and the steps of its probe are those of the probe for the pair's key.
 counted : (g : _) (c : After-probe_for g) (new : HashIndex) (steps : ℕ) → CountsSteps (short g c.args.index.now)
@@ -120,11 +119,10 @@ returns-in-Vacant g c =
     search (rules, c.distance_between.ensures) in
     let away = away_new g place.After-distance_between far in
     record {
-      placed = λ _. next_placed hash c.args.pairs.now c.args.position c.args.index.now c.requires.placed c.requires.within pair
+      found = sym (ap (at (take c.args.position c.args.pairs.now)) (keyed g place.After-probe_for) ∙ missing);
+      placed = next_placed hash c.args.pairs.now c.args.position c.args.index.now c.requires.placed c.requires.within pair
           c.kept_hash-hash.result c.push_at-last.new.self c.index-pairs-position.is hashed
           (ap (at (take c.args.position c.args.pairs.now)) (sym key) ∙ missing) c.push_at-last.ensures.hashes;
-      left = λ no. absurd (true≢false no);
-      stops = λ no. absurd (true≢false no);
       count = c.push_at-last.ensures.count;
       steps = omega (arith, away.near);
       counted = counted g place.After-probe_for c.push_at-last.new.self _
@@ -176,9 +174,9 @@ returns-in-Found g c =
     let place = goal.at.returns-in-Found g c in
     let away = away_found g place.After-distance_between-in-Found in
     record {
-      placed = λ no. absurd (true≢false (sym no));
-      left = λ _. refl;
-      stops = λ _. again g place.After-probe_for (inl (c.in-Found.at, c.in-Found.slot, c.in-Found.is));
+      found = sym (ap (at (take c.args.position c.args.pairs.now)) (keyed g place.After-probe_for)
+          ∙ ends g place.After-probe_for (Found c.in-Found.at c.in-Found.slot) c.in-Found.is);
+      placed = refl;
       count = refl;
       steps = omega (arith, away.near);
       counted = counted g place.After-probe_for c.args.index.now _
@@ -189,27 +187,14 @@ returns-in-Found g c =
       grows = more c.args.steps.now c.distance_between-in-Found.result 0;
     }
 
-pub returns-in-Full : goal.returns-in-Full
-returns-in-Full g c =
-    let place = goal.at.returns-in-Full g c in
-    record {
-      placed = λ no. absurd (true≢false (sym no));
-      left = λ _. refl;
-      stops = λ _. again g place.After-probe_for (inr c.in-Full.is);
-      count = refl;
-      steps = omega (arith, c.requires.counted);
-      counted = counted g place.After-probe_for c.args.index.now _
-          (counts_full (short g c.args.index.now) (keys_of (take c.args.position c.args.pairs.now)) c.args.index.now
-          (omega (arith, c.requires.room)) c.kept_hash-hash.result c.as_str-key.result.now (c.probe_for.new.looks - c.new.result) _
-          (kept_is g place.After-probe_for) (walk g place.After-probe_for Full c.in-Full.is) (omega (arith, c.requires.counted)));
-      grows = omega (arith, c.requires.counted, c.requires.room);
-    }
+pub unreachable-requires : goal.unreachable-requires
+unreachable-requires g c =
+    let place = (goal.at.unreachable-requires g c).After-probe_for in
+    (ends g place Full c.in-Full.is).1 (left_empty (short g c.args.index.now) c.args.pairs.now c.args.position c.args.index.now
+    c.requires.placed c.requires.within c.probe_for.ensures.table c.requires.room)
 
 pub probe_for-requires-clause-fits : goal.probe_for-requires-clause-fits
 probe_for-requires-clause-fits g c = λ m lm _. omega (arith, lm, c.new.ensures, c.requires.fits)
-
-pub overflow_add-steps-in-Full : goal.overflow_add-steps-in-Full
-overflow_add-steps-in-Full g c = omega (arith, c.requires.counted, c.requires.fits)
 
 -- given for speed: the default tactics take longer
 pub probe_for-requires-clause-homed : goal.probe_for-requires-clause-homed

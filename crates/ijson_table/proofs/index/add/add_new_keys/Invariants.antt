@@ -1,7 +1,7 @@
 use Rattle.std.proofs.Common.{◌≡◌, ◌≤◌, ◌+◌, ◌*◌, length}
 use Rattle.ijson_table.specs.private.FirstPlaced.{FirstPlaced}
 use Rattle.ijson_table.specs.private.KeptHash.{kept_hash}
-use Rattle.ijson_table.proofs.table.from_list.add_new_keys.Given as goal
+use Rattle.ijson_table.proofs.index.add.add_new_keys.Given as goal
 
 abbrev pub invariant-loop-position : goal.invariant-loop-position
 invariant-loop-position g l = record {

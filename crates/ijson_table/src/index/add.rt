@@ -1,0 +1,96 @@
+//! Adding the keys of a list of pairs in order.
+
+ghost use Rattle.std.specs.Prelude.{◌≡◌, ◌+◌, ◌-◌, ◌*◌, ◌^◌, ◌<◌, ◌≤◌, [], length, get_or, take, MatchOption};
+ghost use Rattle.ijson_table.specs.Store.{at, keys_of};
+ghost use Rattle.ijson_table.specs.private.CountedSteps.{CountsSteps};
+ghost use Rattle.ijson_table.specs.private.FirstPlaced.{ComesAgain, FirstPlaced};
+ghost use Rattle.ijson_table.specs.private.KeptHash.{kept_hash};
+
+use crate::hash::KeyHash;
+use crate::index::Index;
+use crate::index::probe::Probed;
+use crate::slot::{Modulus, distance_between};
+use ijson_number::Looks;
+use ijson_string::IString;
+
+/// Inserts the indices of pairs into empty slots, up to a duplicate key or a bound on the steps.
+///
+/// Returns the number of indices inserted. `steps` counts each slot inspected and each slot written.
+pub fn add_new_keys<V, H: KeyHash>(
+    pairs: &[(IString, V)],
+    index: &mut Index,
+    most: usize,
+    steps: &mut usize,
+) -> usize
+    requires empty { index.old.hashes ≡ [] }
+    requires room { length pairs.now ≤ length index.old.slots }
+    requires most { most ≤ 2 ^ 62 }
+    requires steps { steps.old ≡ 0 }
+    requires few { length index.old.slots ≤ 2 ^ 60 }
+    ensures within { result ≤ length pairs.now }
+    ensures placed { FirstPlaced (kept_hash (length index.old.slots) H.hash_of) pairs.now result index.new }
+    ensures stops { result < length pairs.now → steps.new ≤ most → ComesAgain pairs.now result }
+    ensures count { length index.new.slots ≡ length index.old.slots }
+    ensures steps { steps.new ≤ most + 2 * length index.old.slots }
+    ensures counted { result ≤ steps.new }
+{
+    if pairs.is_empty() {
+        return 0;
+    }
+    let modulus = Modulus::new(index.len());
+    for position in 0..pairs.len() {
+        if *steps > most {
+            return position;
+        }
+        let None = add_new_key::<V, H>(pairs, index, modulus, position, steps) else {
+            return position;
+        };
+    }
+    pairs.len()
+}
+
+/// Inserts the next index, or returns the index of its key if that is a duplicate.
+///
+/// The steps are counted. Those of a new key follow from the last slot written: each slot from its home slot to there
+/// was inspected or written, and the one at which the probe ended was both.
+pub fn add_new_key<V, H: KeyHash>(
+    pairs: &[(IString, V)],
+    index: &mut Index,
+    modulus: Modulus,
+    position: usize,
+    steps: &mut usize,
+) -> Option<usize>
+    requires counted { modulus.count ≡ length index.old.slots }
+    requires within { position < length pairs.now }
+    requires room { position < length index.old.slots }
+    requires placed { FirstPlaced (kept_hash (length index.old.slots) H.hash_of) pairs.now position index.old }
+    requires fits { steps.old + 2 * length index.old.slots < 2 ^ 64 }
+    ensures found { result ≡ at (take position pairs.now) (get_or (keys_of pairs.now) position []) }
+    ensures placed { MatchOption result
+        (FirstPlaced (kept_hash (length index.old.slots) H.hash_of) pairs.now (position + 1) index.new)
+        (λ _. index.new ≡ index.old) }
+    ensures count { length index.new.slots ≡ length index.old.slots }
+    ensures steps { steps.new ≤ steps.old + 2 * length index.old.slots }
+    ensures counted { CountsSteps (kept_hash (length index.old.slots) H.hash_of) (keys_of (take position pairs.now))
+        (get_or (keys_of pairs.now) position []) index.old index.new (steps.new - steps.old) }
+    ensures grows { steps.old < steps.new }
+{
+    let key = pairs[position].0.as_str();
+    let whole = H::hash(key);
+    let hash = modulus.kept_hash(whole);
+    let home = modulus.home_of_hash(whole);
+    let before = &pairs[..position];
+    let slots = modulus.count;
+    match index.probe_for(before, modulus, hash, home, key, &mut Looks::new()) {
+        Probed::Vacant(slot) => {
+            let last = index.push_at(slot, position, hash);
+            *steps += distance_between(slots, home, last) + 2;
+            None
+        }
+        Probed::Found { at, slot } => {
+            *steps += distance_between(slots, home, slot) + 1;
+            Some(at)
+        }
+        Probed::Full => unreachable!(),
+    }
+}
