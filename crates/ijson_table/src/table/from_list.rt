@@ -29,7 +29,7 @@ use std::marker::PhantomData;
 /// The average number of steps per pair after which the table is built by sorting.
 ///
 /// Keys that nobody chose take about three in a small object, and seventeen in one of 30,000 numbered keys.
-const STEPS_A_PAIR: usize = 32;
+pub const STEPS_A_PAIR: usize = 32;
 
 impl<V: Drop, H: KeyHash> Table<V, H> {
     /// Creates a store by inserting `pairs` in order.
@@ -236,7 +236,7 @@ fn put_back<T: Drop>(list: &mut Vec<T>, mut rest: Vec<T>)
 /// Inserts the indices of pairs into empty slots, up to a duplicate key or a bound on the steps.
 ///
 /// Returns the number of indices inserted. `steps` counts each slot inspected and each slot written.
-fn add_new_keys<V, H: KeyHash>(
+pub fn add_new_keys<V, H: KeyHash>(
     pairs: &[(IString, V)],
     index: &mut Index,
     most: usize,

@@ -1,26 +1,17 @@
-use Rattle.std.proofs.Common.{◌≡◌, ℕ, ◌+◌, ◌*◌, ◌<◌, ◌≤◌, List, [], ◌∷◌, ◌++◌, length, map, Option, arith, ap, refl, sym, ◌∙◌, subst}
-use Rattle.std.proofs.lemmas.Bool.Decides.{nat_tests}
+use Rattle.std.proofs.Common.{◌≡◌, ℕ, ◌+◌, ◌*◌, ◌<◌, ◌≤◌, [], ◌∷◌, ◌++◌, length, map, arith, ap, refl, sym, ◌∙◌, subst}
 use Rattle.ijson_table.specs.Crowd.{distance, slot_count}
 use Rattle.ijson_table.specs.Growth.{capacity_limit}
 use Rattle.ijson_table.specs.Placed.{Placed}
-use Rattle.ijson_table.specs.Slots.{IsTable}
 use Rattle.ijson_table.specs.Store.{at, keys_of}
 use Rattle.ijson_table.specs.private.Changes.{changes}
-use Rattle.ijson_table.specs.private.Holds.{HasEmpty, MayStand}
+use Rattle.ijson_table.specs.private.Holds.{MayStand}
 use Rattle.ijson_table.proofs.pairs.Shown.{room_shown}
 use Rattle.ijson_table.proofs.arithmetic.Circular.{distance-below}
 use Rattle.ijson_table.proofs.pairs.NewPairs.{put_last}
 use Rattle.ijson_table.proofs.pairs.PairsByKey.{keys-length, position_within}
-use Rattle.ijson_table.proofs.probing.KeyHashes.{length-hashes}
-use Rattle.ijson_table.proofs.shifting.Insertion.{some_empty}
 use Rattle.ijson_table.proofs.slots.SlotChanges.{changes-none}
 use Rattle.ijson_table.proofs.table.Table.insert_in_room.Goals.{After-distance_between, After-len-slots}
 use Rattle.ijson_table.proofs.table.Table.insert_in_room.Goals as goal
-
--- slots that are more than the keys are not full
-left_empty : (hashes : List ℕ) (slots : List (Option ℕ)) → IsTable hashes slots → length hashes < length slots → HasEmpty slots
-left_empty hashes slots table room = some_empty slots (length hashes + 1) (length hashes) (λ i. grind (arith, nat_tests, table.placed i))
-    (omega arith) (grind (arith, nat_tests, table.placed (length hashes))) (omega (arith, room))
 
 -- The slots inspected, and those written, are each at most all slots.
 few_steps : (n slots slot last away looks : ℕ) → away ≡ distance slots slot last → slots ≡ n → slot < n → last < n → looks ≤ n
@@ -73,10 +64,7 @@ returns-in-Vacant-clause-steps g c =
     steps g c here
 
 pub unreachable-requires : goal.unreachable-requires
-unreachable-requires g c =
-    let here = sized g (goal.at.unreachable-requires g c).After-len-slots in
-    c.in-Full.ensures.ends.1 (left_empty _ c.args.self.now.slots c.in-Full.ensures.table
-    (omega (arith, here.size, c.requires, length-hashes g.H.KeyHash.hash_of c.args.self.now.store.pairs)))
+unreachable-requires g c = c.in-Full.ensures.ends.1 (c.in-Full.ensures.empty c.requires)
 
 pub replace_at-requires : goal.replace_at-requires
 replace_at-requires g c = position_within c.args.self.now.store.pairs c.args.key c.in-Found.at
