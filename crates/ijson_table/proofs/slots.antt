@@ -3,7 +3,6 @@ pub mod HashesInSlots
 pub mod IndexInvariant
 pub mod KeptHashes
 pub mod NarrowSlots
-pub mod ResidentCount
 pub mod Residents
 pub mod SlotChanges
 pub mod StoredSlots

@@ -1,7 +1,5 @@
-pub mod BeforeSorting
 pub mod Changes
 pub mod Closing
-pub mod CopyBound
 pub mod CountedSteps
 pub mod Entries
 pub mod FirstPlaced

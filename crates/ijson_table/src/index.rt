@@ -6,10 +6,9 @@
 //! - `places`: the trait of a table whose slots can be inspected, and `locate`, the lookup that counts inspections.
 //! - `probe`: the one walk over the slots, with which each lookup and each shift begins.
 //! - `forward`: the forward shift, in each representation.
-//! - `shift`: the moves of residents in insertion, removal and growth.
+//! - `shift`: the moves of residents in insertion and removal.
 //! - `add`: adding the keys of a list in order.
 //! - `fill`: filling a table from entries sorted by home slot.
-//! - `copy`: copying the slots to another number of slots.
 
 ghost use Rattle.std.specs.Prelude.{◌≡◌, ℕ, ◌+◌, ◌-◌, ◌%◌, ◌^◌, ◌<◌, ◌≤◌, [], ◌∷◌, ◌++◌, length, get_or, set, None, IfOk, OnErr};
 ghost use Rattle.std.specs.List.{remove, swap_remove as swapped_out};
@@ -25,7 +24,6 @@ ghost use Rattle.ijson_table.specs.private.Probe.{AreFull, Passed};
 ghost use Rattle.ijson_table.specs.private.SlotHashes.{position_in, HasHash};
 
 pub mod add;
-mod copy;
 pub mod fill;
 mod forward;
 pub mod places;
@@ -34,7 +32,7 @@ mod shift;
 mod slots;
 
 use crate::index::probe::{Lookup, Probed, probe};
-use crate::index::shift::{rehash_one, shift_remove, swap_remove, vacancy};
+use crate::index::shift::{rehash_one, shift_remove, swap_remove};
 use crate::index::slots::Slots;
 use crate::slot::{Modulus, Slot};
 use ijson_number::Looks;
@@ -80,6 +78,16 @@ impl Index {
     {
         Ok(Index {
             slots: Slots::with_count(alloc, count)?,
+        })
+    }
+
+    /// Returns a copy of the slots.
+    pub fn copied(&self, alloc: Global) -> Result<Index, AllocError>
+        ensures copied { IfOk result (λ list. list ≡ self.now) }
+        ensures refused { OnErr result (0 < length self.now.slots) }
+    {
+        Ok(Index {
+            slots: self.slots.copied(alloc)?,
         })
     }
 
@@ -149,17 +157,6 @@ impl Index {
                 probe(&lookup, looks)
             }
         }
-    }
-
-    /// Returns the slot at which the probe for a new key ends.
-    ///
-    /// `hash` is the part of its hash that the slots keep. Call it only if there are more slots than entries.
-    pub fn vacancy(&self, hash: u64) -> usize
-        requires { length self.now.hashes < length self.now.slots }
-        ensures { MayStand (self.now.hashes ++ hash ∷ []) self.now.slots (length self.now.hashes) result }
-    {
-        let (slot, _looked) = vacancy(&self.slots, hash);
-        slot
     }
 
     /// Inserts the next index at the slot at which the probe for its key ended.

@@ -70,8 +70,8 @@ impl<V: Drop> From<RefusedPair<V>> for ReserveError {
 /// A list takes, per entry of its capacity, 16 bytes and the size of a value. A table takes 20 bytes more, but 4 up to
 /// a capacity of 127, and none up to 8.
 ///
-/// A table that grows, shrinks or is copied hashes no key again if its capacity exceeds 127 before and after, or if a
-/// copy has the same number of slots. Otherwise, it hashes each key once.
+/// A table that grows, shrinks or is copied hashes each key once, or twice if many keys collide. A copy with the same
+/// number of slots hashes none.
 pub trait PairStore<V>: Sized {
     /// The entries, in order.
     ghost pairs: { Self → List (List ℕ × V) };

@@ -1,28 +1,31 @@
 //! A pair store that finds keys by their hash.
 
-ghost use Rattle.std.specs.Prelude.{◌≡◌, ◌≢◌, ◌+◌, ◌-◌, ◌<◌, ◌≤◌, ◌^◌, [], ◌∷◌, ◌++◌, length, get_or, map};
+ghost use Rattle.std.specs.Prelude.{◌≡◌, ◌+◌, ◌-◌, ◌<◌, ◌≤◌, ◌^◌, [], ◌∷◌, ◌++◌, length, get_or, map};
 ghost use Rattle.std.specs.Prelude.{ℕ, List, Ok, Err, refl, is_some, IfOk, IsOk, IsTrue, OnErr, ◌↔◌, Some, None};
 ghost use Rattle.std.specs.Option.{option_copied};
-ghost use Rattle.ijson_table.specs.private.CopyBound.{IsCopyBounded};
+ghost use Rattle.ijson_table.specs.BuildBound.{IsBuildBounded};
 ghost use Rattle.ijson_table.specs.Growth.{capacity_limit};
 ghost use Rattle.ijson_table.specs.Inserts.{Inserts};
-ghost use Rattle.ijson_table.specs.Slots.{IsBounded, IsTable};
+ghost use Rattle.ijson_table.specs.Slots.{IsBounded};
 ghost use Rattle.ijson_table.specs.Store.{at, keys_of, IsDistinct, lookup, with_key};
 ghost use Rattle.ijson_table.specs.PlacedWithValue.{placed_with_value};
 ghost use Rattle.ijson_table.specs.laws.Store.{IsDistinct-prop};
-ghost use Rattle.ijson_table.specs.private.Holds.{MayStand};
-ghost use Rattle.ijson_table.specs.private.KeptHash.{kept_hash, narrow_slots};
+ghost use Rattle.ijson_table.specs.private.Holds.{HasEmpty, MayStand};
+ghost use Rattle.ijson_table.specs.private.KeptHash.{kept_hash};
+ghost use Rattle.ijson_table.specs.private.IsPlaced.{IsPlaced};
 ghost use Rattle.ijson_table.specs.private.Lookup.{LookUpEnds};
-ghost use Rattle.ijson_table.specs.private.Room.{IsResized};
+ghost use Rattle.ijson_table.specs.private.Room.{HasRoom, IsResized};
 
 mod from_list;
 
 use crate::growth::{grown_capacity, limited, slots_for};
 use crate::hash::KeyHash;
 use crate::index::Index;
+use crate::index::add::{STEPS_A_PAIR, add_new_keys};
+use crate::index::fill::fill_sorted;
 use crate::index::places::{Places, locate};
 use crate::index::probe::{Probed, has_key};
-use crate::slot::{Modulus, NARROW_SLOTS, Seen};
+use crate::slot::{Modulus, Seen};
 use crate::store::{PairStore, RefusedPair, ReserveError, fmt_pairs};
 use crate::vec::{list_with_room, set_room, tighten};
 use ijson_number::Looks;
@@ -101,9 +104,8 @@ impl<V: Drop, H: KeyHash> Table<V, H> {
     ///
     /// # Cost
     ///
-    /// No key is hashed again if this store has no spare capacity, or if there are more than 127 entries; otherwise,
-    /// each is hashed once. The time is linear in both capacities if few keys collide. If many do, the slots are filled
-    /// by sorting, as in growth.
+    /// If this store has no spare capacity, no key is hashed, and the time is linear in the number of entries. Otherwise,
+    /// it is that of `from_pairs` for the same entries.
     pub fn with_same_keys(
         &self,
         alloc: Global,
@@ -114,8 +116,8 @@ impl<V: Drop, H: KeyHash> Table<V, H> {
         ensures capacity { IfOk result (λ table. table.store.capacity ≡ length pairs.items) }
         ensures refused { OnErr result (0 < length pairs.items) }
     {
-        let capacity = pairs.len();
-        let index = self.index_with_slots(alloc, slots_for(capacity), &mut 0)?;
+        let capacity = self.pairs.len();
+        let index = self.index_with_capacity(alloc, capacity, &mut Looks::new())?;
         tighten(alloc, &mut pairs)?;
         Ok(Table {
             pairs,
@@ -191,19 +193,14 @@ impl<V: Drop, H: KeyHash> Table<V, H> {
 
     /// Sets the capacity, to the length or to at least the old one.
     ///
-    /// If an allocation fails, nothing changes. `steps`, which is 0 before, counts each slot that is inspected or
-    /// written for an entry, and each comparison of two entries, if there are more than 158 slots before and after.
-    /// Passes over all slots, which read, empty or fill them in order, do not count.
-    fn set_capacity(&mut self, capacity: usize, steps: &mut u128) -> Result<(), AllocError>
-        requires within { length self.old.store.pairs ≤ capacity }
+    /// If an allocation fails, nothing changes.
+    fn set_capacity(&mut self, capacity: usize) -> Result<(), AllocError>
+        requires room { HasRoom (length self.old.store.pairs) capacity }
         requires grows { length self.old.store.pairs < capacity → self.old.store.capacity ≤ capacity }
-        requires limited { capacity ≤ capacity_limit }
-        requires steps { steps.old ≡ 0 }
-        ensures resized { IsResized self.old.store.pairs self.old.store.capacity capacity result
+        ensures { IsResized self.old.store.pairs self.old.store.capacity capacity result
             self.new.store.pairs self.new.store.capacity }
-        ensures bounded { IsCopyBounded (length self.old.store.pairs) steps.new }
     {
-        let index = self.index_with_slots(self.alloc, slots_for(capacity), steps)?;
+        let index = self.index_with_capacity(self.alloc, capacity, &mut Looks::new())?;
         if let Err(refused) = set_room(self.alloc, &mut self.pairs, capacity) {
             drop(index);
             return Err(refused);
@@ -234,9 +231,10 @@ impl<V: Drop, H: KeyHash> Table<V, H> {
         ensures pairs { self.new.store.pairs ≡ self.old.store.pairs ++ (key, value) ∷ [] }
         ensures capacity { self.new.store.capacity ≡ self.old.store.capacity }
     {
-        let kept = Modulus::new(self.index.len()).kept_hash(hash);
-        let slot = self.index.vacancy(kept);
-        self.push_at(slot, key, value, hash);
+        match self.find(hash, key.as_str(), &mut Looks::new()) {
+            Probed::Vacant(slot) => self.push_at(slot, key, value, hash),
+            Probed::Found { .. } | Probed::Full => unreachable!(),
+        };
     }
 
     /// Replaces the key at an index by one that is missing, and returns the old key.
@@ -344,7 +342,7 @@ impl<V, H: KeyHash> Table<V, H> {
     fn find(&self, hash: u64, key: &str, looks: &mut Looks) -> Probed
         requires hash { hash ≡ H.hash_of key.now }
         requires fits { looks.old + capacity_limit + 1 < 2 ^ 128 }
-        ensures table { IsTable (map H.hash_of (keys_of self.now.store.pairs)) self.now.slots }
+        ensures empty { length self.now.store.pairs < self.now.store.capacity → HasEmpty self.now.slots }
         ensures ends { LookUpEnds (map H.hash_of (keys_of self.now.store.pairs))
             (keys_of self.now.store.pairs) self.now.slots (H.hash_of key.now) key.now result }
         ensures grows { looks.old ≤ looks.new }
@@ -362,59 +360,46 @@ impl<V, H: KeyHash> Table<V, H> {
             .probe_for(&self.pairs, modulus, kept, home, key, looks)
     }
 
-    /// Creates a hash index of `count` slots, which are enough for all entries.
+    /// Creates a hash index of the entries, with the slots of a table of this capacity.
     ///
-    /// If the number of slots is unchanged, or both numbers exceed `NARROW_SLOTS`, both keep the same part of each
-    /// hash, and no key is hashed. Otherwise, each key is hashed once, since the part that few slots keep does not give
-    /// the home slot among other numbers of slots, and no step is counted.
-    fn index_with_slots(
+    /// If the number of slots is unchanged, they are copied. Otherwise, the indices are inserted in order, up to a bound
+    /// on the steps, past which the slots are filled by sorting.
+    ///
+    /// It counts each slot inspected or written in insertions, and each comparison of two entries in sorting.
+    fn index_with_capacity(
         &self,
         alloc: Global,
-        count: usize,
-        steps: &mut u128,
+        capacity: usize,
+        looks: &mut Looks,
     ) -> Result<Index, AllocError>
-        requires room { length self.now.store.pairs ≤ count }
-        requires steps { steps.old ≡ 0 }
-        ensures hashes { IfOk result (λ index. index.hashes
-            ≡ map (kept_hash count H.hash_of) (keys_of self.now.store.pairs)) }
-        ensures count { IfOk result (λ index. length index.slots ≡ count) }
-        ensures refused { OnErr result (0 < count) }
-        ensures limited { length self.now.store.pairs ≤ capacity_limit }
-        ensures bounded { IsCopyBounded (length self.now.store.pairs) steps.new }
+        requires room { HasRoom (length self.now.store.pairs) capacity }
+        requires fits { looks.old + 2 ^ 72 < 2 ^ 128 }
+        ensures placed { IfOk result (IsPlaced H.hash_of self.now.store.pairs capacity) }
+        ensures refused { OnErr result (0 < capacity) }
+        ensures bounded { IsBuildBounded capacity (looks.new - looks.old) }
     {
-        let slots = self.index.len();
-        if count == slots || count.min(slots) > NARROW_SLOTS {
-            return self
-                .index
-                .copy_counted(alloc, self.pairs.len(), count, steps);
+        let count = slots_for(capacity);
+        if count == self.index.len() {
+            return self.index.copied(alloc);
         }
         let mut index = Index::with_slots(alloc, count)?;
-        self.place_each(&mut index);
+        let mut steps = 0;
+        let placed = add_new_keys::<V, H>(
+            &self.pairs,
+            &mut index,
+            STEPS_A_PAIR * capacity,
+            &mut steps,
+        );
+        looks.add(steps as u128);
+        if placed == self.pairs.len() {
+            return Ok(index);
+        }
+        index.clear();
+        if let Err(refused) = fill_sorted::<V, H>(alloc, &self.pairs, &mut index, looks) {
+            drop(index);
+            return Err(refused);
+        }
         Ok(index)
-    }
-
-    /// Inserts the indices of the entries into empty slots, which are enough for all of them.
-    ///
-    /// Each key is hashed once, and no step is counted. Needed only if the numbers of slots differ and one is at most
-    /// `NARROW_SLOTS`; otherwise the slots are copied.
-    fn place_each(&self, index: &mut Index)
-        requires empty { index.old.hashes ≡ [] }
-        requires room { length self.now.store.pairs ≤ length index.old.slots }
-        requires other { length index.old.slots ≢ length self.now.slots }
-        requires few { narrow_slots < length index.old.slots → length self.now.slots ≤ narrow_slots }
-        ensures hashes { index.new.hashes ≡ map (kept_hash (length index.old.slots) H.hash_of) (keys_of self.now.store.pairs) }
-        ensures count { length index.new.slots ≡ length index.old.slots }
-    {
-        let pairs: &[(IString, V)] = &self.pairs;
-        if pairs.is_empty() {
-            return;
-        }
-        let modulus = Modulus::new(index.len());
-        for position in 0..pairs.len() {
-            let hash = modulus.kept_hash(H::hash(pairs[position].0.as_str()));
-            let slot = index.vacancy(hash);
-            index.push_at(slot, position, hash);
-        }
     }
 
     /// Returns the part of the hash of the key at `index` that the slots keep.
@@ -468,7 +453,7 @@ impl<V, H: KeyHash> Places for Table<V, H> {
 
 /// Each key that is looked up, inserted or removed is hashed.
 ///
-/// Growth and shrinking hash no key if the capacity exceeds 127 before and after; otherwise, they hash each key once.
+/// Growth and shrinking hash each key once, or twice if many keys collide.
 impl<V: Drop, H: KeyHash> PairStore<V> for Table<V, H> {
     ghost pairs = { λ t. t.store.pairs };
 
@@ -498,7 +483,7 @@ impl<V: Drop, H: KeyHash> PairStore<V> for Table<V, H> {
     fn reserve(&mut self, additional: usize) -> Result<(), ReserveError> {
         let len = self.pairs.len();
         match grown_capacity(len, self.pairs.capacity(), additional)? {
-            Some(capacity) => Ok(self.set_capacity(capacity, &mut 0)?),
+            Some(capacity) => Ok(self.set_capacity(capacity)?),
             None => Ok(()),
         }
     }
@@ -508,7 +493,7 @@ impl<V: Drop, H: KeyHash> PairStore<V> for Table<V, H> {
         if self.pairs.capacity() == len {
             return Ok(());
         }
-        Ok(self.set_capacity(len, &mut 0)?)
+        Ok(self.set_capacity(len)?)
     }
 
     fn position(&self, key: &str) -> Option<usize> {

@@ -78,7 +78,7 @@ fn clone_pairs(
 /// # Cost
 ///
 /// Linear in the value and the capacities of its objects; if many keys of an object collide, at most n log n in its entries. No key is
-/// hashed if its object has no spare capacity or more than 127 entries; any other key is hashed once.
+/// hashed if its object has no spare capacity; any other key is hashed once, or twice if many collide.
 impl Clone for IValue {
     ghost is_clone = { λ v copy. copy ≡ v };
 

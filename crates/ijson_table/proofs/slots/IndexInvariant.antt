@@ -2,21 +2,23 @@
 use Rattle.std.proofs.Common.{◌≡◌, ℕ, ◌+◌, ◌<◌, ◌≤◌, ◌^◌, arith, List, [], ◌∷◌, ◌++◌, length, take, drop, get_or, Option, Some, None, refl}
 use Rattle.std.proofs.Common.{sym, ap, ◌∙◌, length-append}
 use Rattle.std.specs.List.{All}
+use Rattle.std.specs.Prelude.{sum}
 use Rattle.std.proofs.lemmas.Bool.Decides.{nat_tests}
 use Rattle.std.proofs.lemmas.List.Elements.{All-from_get_or}
 use Rattle.std.proofs.Math.ListN.{get_or-append}
 use Rattle.std.proofs.Math.Seq.{get_or-append_seam}
 use Rattle.ijson_table.specs.declared.slot.Slot.{Slot}
-use Rattle.ijson_table.specs.Slots.{times, below}
+use Rattle.ijson_table.specs.Slots.{resident, times, below}
 use Rattle.ijson_table.specs.private.Holds.{with_one, HasEmpty, Holds}
 use Rattle.ijson_table.specs.private.Insertion.{Accepts, IsTableOf}
 use Rattle.ijson_table.specs.private.SlotHashes.{position_in, positions, blank, hashes_of, HaveHashes}
 use Rattle.ijson_table.specs.private.HashIndex.{IsIndex}
+use Rattle.ijson_table.proofs.arithmetic.Counting.{covers}
+use Rattle.ijson_table.proofs.probing.LookCount.{ones, sum-ones, one-at, length-ones}
 use Rattle.ijson_table.proofs.slots.HashesInSlots.{positions-length, position-at, all_empty, hashes-none, hashes-as}
 use Rattle.ijson_table.proofs.shifting.Insertion.{some_empty}
 use Rattle.ijson_table.proofs.shifting.Removal.{holds_none, holds_pushed, table-holds}
-use Rattle.ijson_table.proofs.slots.ResidentCount.{no_less}
-use Rattle.ijson_table.proofs.slots.Residents.{times-some}
+use Rattle.ijson_table.proofs.slots.Residents.{times-some, stands}
 use Rattle.ijson_table.proofs.slots.HashesInOrder.{hashes_of-table, index_of}
 use Rattle.ijson_table.proofs.probing.ProbePath.{in_list}
 
@@ -29,6 +31,17 @@ whole-all (x ∷ xs) (y ∷ ys) e = ap (λ zs. x ∷ zs) (whole-all xs ys (omega
 -- a slice that was lent as a whole
 pub whole : (n : ℕ) (new old : List Slot) → length new ≡ length old → n ≡ length old → take n (new ++ drop (length new) old) ≡ new
 whole n new old e is = ap (λ k. take k (new ++ drop (length new) old)) (is ∙ sym e) ∙ whole-all new old e
+
+-- Each index is in a slot of its own.
+pub no_less : (n : ℕ) (slots : List (Option ℕ)) → ((i : ℕ) → times i slots ≡ below n i) → n ≤ length slots
+no_less n slots placed =
+    let all : n ≤ sum (ones (length slots)) = covers n (λ p j. resident slots p ≡ Some j) (ones (length slots))
+    (λ p j l lj ll a b. let same : ◌≡◌ {A = Option ℕ} (Some j) (Some l) = sym a ∙ b in cc)
+    (λ j lj.
+    let once : times j slots ≡ 1 = grind (arith, nat_tests, placed j) in
+    let there = stands j slots (omega arith) in
+    (there.0, omega (arith, length-ones (length slots), there.1), there.2, omega (arith, one-at (length slots) there.0 there.1)))
+    in omega (arith, all, sum-ones (length slots))
 
 -- a list of slots with these hashes
 pub record IsIndexOf (hashes : List ℕ) (slots : List Slot) : Type 0 where

@@ -1,11 +1,10 @@
 -- The kept part of a hash gives the same home slot, so the slots are ordered by it as by the whole hash.
-use Rattle.std.proofs.Common.{◌≡◌, ◌≢◌, inl, inr, ℕ, zero, suc, ◌+◌, ◌*◌, ◌%◌, ◌<◌, ◌≤◌, arith, true, false, List, [], ◌∷◌, ◌++◌, length}
+use Rattle.std.proofs.Common.{◌≡◌, ℕ, zero, suc, ◌+◌, ◌*◌, ◌%◌, ◌<◌, ◌≤◌, arith, true, false, List, [], ◌∷◌, ◌++◌, length}
 use Rattle.std.proofs.Common.{map, get_or, leb, Option, Some, None, refl, sym, ap, subst, ◌∙◌}
 use Rattle.std.specs.Prelude.{◌-◌, count_by, if◌then◌else◌}
 use Rattle.std.proofs.Math.Nat.{mod-mod, zero-mod}
 use Rattle.std.proofs.lemmas.Bool.Decides.{nat_tests}
 use Rattle.std.proofs.lemmas.List.{length-map, map-append}
-use Rattle.std.proofs.lemmas.Bool.{cases_eq}
 use Rattle.ijson_table.specs.Crowd.{distance, home_of, homed, crowd, slot_count, greatest_below}
 use Rattle.ijson_table.specs.Sees.{Sees}
 use Rattle.ijson_table.specs.Slots.{after, displaced, displacement, resident, home_at, below, IsTable, IsBounded}
@@ -195,11 +194,3 @@ bounded_by_hash hash keys slots c key looks size bounded =
       always = bounded.always;
       some_look = bounded.some_look;
     }
-
--- if the number of slots is equal, or both are many, they keep the same part of each hash
-pub hashes-same : (n m : ℕ) (hash : List ℕ → ℕ) (keys : List (List ℕ))
-    → (m ≢ n → (narrow_slots < n) × (narrow_slots < m)) → map (kept_hash n hash) keys ≡ map (kept_hash m hash) keys
-hashes-same n m hash keys many = elim (cases_eq m n) [
-  | inl same ↦ ap (λ k. map (kept_hash k hash) keys) (sym same)
-  | inr other ↦ hashes-wide n hash keys (many other).0 ∙ sym (hashes-wide m hash keys (many other).1)
-]

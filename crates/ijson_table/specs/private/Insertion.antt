@@ -2,10 +2,9 @@
 use Rattle.std.specs.Prelude.{◌≡◌, ℕ, ◌+◌, ◌<◌, ◌≤◌, ◌^◌, List, length, get_or, Some, None}
 use Rattle.ijson_table.specs.declared.slot.Slot.{Slot}
 use Rattle.ijson_table.specs.Crowd.{distance}
-use Rattle.ijson_table.specs.Slots.{resident, times, below, IsOrdered, IsTable}
+use Rattle.ijson_table.specs.Slots.{resident, IsOrdered, IsTable}
 use Rattle.ijson_table.specs.private.Changes.{changes}
 use Rattle.ijson_table.specs.private.Holds.{with_one, Holds, HasEmpty, MayStand}
-use Rattle.ijson_table.specs.private.KeptHash.{narrow_slots}
 use Rattle.ijson_table.specs.private.Probe.{AreFull}
 use Rattle.ijson_table.specs.private.SlotHashes.{positions, HaveHashes}
 
@@ -38,16 +37,6 @@ pub record Stands (hashes : List ℕ) (slots : List Slot) (position hash : ℕ) 
   pub hashes_are : HaveHashes hashes slots
   pub ordered : IsOrdered hashes (positions slots)
   pub stands : (p : ℕ) × (p < length slots) × (resident (positions slots) p ≡ Some position)
-
--- The slots are enough for each index in other slots, and none of them is in both.
-pub record AcceptsEach (hashes : List ℕ) (slots from : List Slot) : Type 0 where
-  pub ordered : IsOrdered hashes (positions slots)
-  pub hashes_are : HaveHashes hashes slots
-  pub from_hashes : HaveHashes hashes from
-  pub once : (i : ℕ) → times i (positions slots) + times i (positions from) ≤ below (length hashes) i
-  pub room : length hashes ≤ length slots
-  pub limited : length slots < 2 ^ 64
-  pub wide : narrow_slots < length slots
 
 -- The slots are a table of the hashes in them.
 pub record IsTableOf (hashes : List ℕ) (slots : List Slot) : Type 0 where

@@ -13,6 +13,11 @@ use crate::slot::{Modulus, distance_between};
 use ijson_number::Looks;
 use ijson_string::IString;
 
+/// The average number of steps per pair after which the table is built by sorting.
+///
+/// Keys that nobody chose take about three in a small object, and seventeen in one of 30,000 numbered keys.
+pub const STEPS_A_PAIR: usize = 32;
+
 /// Inserts the indices of pairs into empty slots, up to a duplicate key or a bound on the steps.
 ///
 /// Returns the number of indices inserted. `steps` counts each slot inspected and each slot written.

@@ -1,20 +1,18 @@
-//! Moves of residents, with counted steps: insertion, backward shift and rehash.
+//! Moves of residents by their hashes: removal with backward shift, and a new hash.
 
-ghost use Rattle.std.specs.Prelude.{◌≡◌, ℕ, ◌+◌, ◌*◌, ◌<◌, ◌≤◌, ◌%◌, ◌^◌, List, length, get_or, map, set, Some, None, IsTrue, IsFalse};
+ghost use Rattle.std.specs.Prelude.{◌≡◌, ℕ, ◌+◌, ◌<◌, ◌≤◌, ◌%◌, ◌^◌, List, length, get_or, map, set, Some, None};
 ghost use Rattle.ijson_table.specs.Slots.{below, resident, times, IsOrdered};
-ghost use Rattle.ijson_table.specs.private.Changes.{changes};
 ghost use Rattle.ijson_table.specs.private.Closing.{closed};
-ghost use Rattle.ijson_table.specs.private.Holds.{with_one, Holds, HasEmpty, HasGap};
-ghost use Rattle.ijson_table.specs.private.Insertion.{Accepts, AcceptsEach, EndsWith, IsTableOf, Stands};
-ghost use Rattle.ijson_table.specs.private.KeptHash.{narrow_slots};
+ghost use Rattle.ijson_table.specs.private.Holds.{Holds, HasEmpty, HasGap};
+ghost use Rattle.ijson_table.specs.private.Insertion.{EndsWith, IsTableOf, Stands};
 ghost use Rattle.ijson_table.specs.private.Narrow.{MayHold};
-ghost use Rattle.ijson_table.specs.private.SlotHashes.{displacement_in, positions, position_in, HaveHashes};
+ghost use Rattle.ijson_table.specs.private.SlotHashes.{displacement_in, positions, HaveHashes};
 ghost use Rattle.ijson_table.specs.private.Probe.{IsVacancy};
-ghost use Rattle.std.specs.List.{All, remove, swap_remove as swapped_out};
+ghost use Rattle.std.specs.List.{remove, swap_remove as swapped_out};
 
 use crate::index::probe::{ProbeTarget, Probed, next_slot, probe};
 use crate::index::slots::Slots;
-use crate::slot::{Modulus, Seen, Slot, distance_between};
+use crate::slot::{Modulus, Seen, Slot};
 use ijson_number::Looks;
 
 /// A probe that knows only the hash of a key.
@@ -58,12 +56,10 @@ impl<'a> ProbeTarget for HashProbe<'a> {
     }
 }
 
-/// Returns where the probe for a missing key of this hash ends, and the number of inspections.
-pub fn vacancy(slots: &Slots, hash: u64) -> (usize, u128)
+/// Returns the slot at which the probe for a missing key of this hash ends.
+fn vacancy(slots: &Slots, hash: u64) -> usize
     requires { HasEmpty (positions slots.now) }
-    ensures vacancy { IsVacancy (displacement_in slots.now) (length slots.now) (hash % length slots.now) result.0 }
-    ensures within { result.1 ≤ length slots.now }
-    ensures few { (n : ℕ) → ((i : ℕ) → times i (positions slots.now) ≤ below n i) → result.1 ≤ n + 1 }
+    ensures { IsVacancy (displacement_in slots.now) (length slots.now) (hash % length slots.now) result }
 {
     let newcomer = HashProbe {
         slots,
@@ -71,9 +67,8 @@ pub fn vacancy(slots: &Slots, hash: u64) -> (usize, u128)
         hash,
         position: None,
     };
-    let mut looks = Looks::new();
-    match probe(&newcomer, &mut looks) {
-        Probed::Vacant(slot) => (slot, looks.count()),
+    match probe(&newcomer, &mut Looks::new()) {
+        Probed::Vacant(slot) => slot,
         Probed::Found { .. } | Probed::Full => unreachable!(),
     }
 }
@@ -95,24 +90,6 @@ fn slot_of(slots: &Slots, position: usize, hash: u64) -> usize
         Probed::Found { slot, .. } => slot,
         Probed::Vacant(_) | Probed::Full => unreachable!(),
     }
-}
-
-/// Inserts an index, whose key has this hash, into slots of which one is empty.
-///
-/// Returns the steps: each slot inspected and each slot written.
-fn insert(slots: &mut Slots, position: usize, hash: u64) -> u128
-    ghost hashes: { List ℕ }
-    requires accepts { Accepts hashes slots.old position hash }
-    requires narrow { MayHold (length slots.old) position hash }
-    ensures holds { Holds hashes (with_one (positions slots.old) position) None (positions slots.new) }
-    ensures hashes { HaveHashes hashes slots.new }
-    ensures count { length slots.new ≡ length slots.old }
-    ensures changes { changes (positions slots.old) (positions slots.new) ≤ result }
-    ensures few { (n : ℕ) → ((i : ℕ) → with_one (positions slots.old) position i ≤ below n i) → result ≤ 2 * n + 1 }
-{
-    let (slot, looked) = vacancy(slots, hash);
-    let last = slots.shift_forward(slot, position, hash);
-    looked + distance_between(slots.len(), slot, last) as u128 + 1
 }
 
 /// Shifts residents after a gap back by one slot, up to an empty slot or a resident at its home slot.
@@ -181,7 +158,8 @@ pub fn rehash_one(slots: &mut Slots, position: usize, was: u64, hash: u64)
     ensures count { length slots.new ≡ length slots.old }
 {
     take_out(slots, position, was);
-    insert(slots, position, hash);
+    let slot = vacancy(slots, hash);
+    slots.shift_forward(slot, position, hash);
 }
 
 /// Decrements each index after `gone`.
@@ -209,58 +187,4 @@ pub fn shift_remove(slots: &mut Slots, position: usize, hash: u64, last: usize)
     if position < last {
         close_up(slots, position);
     }
-}
-
-/// Inserts the residents of other slots one by one, up to a bound on the counted steps.
-///
-/// Returns whether all were inserted.
-fn insert_each(from: &[Slot], slots: &mut Slots, most: u128, steps: &mut u128) -> bool
-    ghost hashes: { List ℕ }
-    requires accepts { AcceptsEach hashes slots.old from.now }
-    requires fits { most + 3 * length hashes < 2 ^ 128 }
-    requires steps { steps.old ≤ most + 3 * length hashes }
-    ensures ordered { IsOrdered hashes (positions slots.new) }
-    ensures placed { IsTrue result → (i : ℕ) → times i (positions slots.new)
-        ≡ times i (positions slots.old) + times i (positions from.now) }
-    ensures hashes { HaveHashes hashes slots.new }
-    ensures count { length slots.new ≡ length slots.old }
-    ensures steps { steps.new ≤ most + 3 * length hashes }
-    ensures past { IsFalse result → most < steps.new }
-{
-    for index in 0..from.len() {
-        let entry = from[index];
-        let Some(position) = entry.position() else {
-            continue;
-        };
-        if *steps > most {
-            return false;
-        }
-        *steps += insert(slots, position, entry.hash());
-    }
-    true
-}
-
-/// Inserts the residents of a table into empty slots, in the order of the old slots.
-///
-/// It reads no key. `steps` counts the steps; once they exceed `most`, it empties the slots again and returns `false`.
-pub fn rehash(old: &[Slot], slots: &mut Slots, most: u128, steps: &mut u128) -> bool
-    ghost hashes: { List ℕ }
-    requires table { IsTableOf hashes old.now }
-    requires empty { All (λ slot. position_in slot ≡ None) slots.old }
-    requires room { length hashes ≤ length slots.old }
-    requires limited { length slots.old < 2 ^ 64 }
-    requires wide { narrow_slots < length slots.old }
-    requires fits { most + 3 * length hashes < 2 ^ 128 }
-    requires steps { steps.old ≡ 0 }
-    ensures table { IsTrue result → IsTableOf hashes slots.new }
-    ensures empty { IsFalse result → All (λ slot. position_in slot ≡ None) slots.new }
-    ensures count { length slots.new ≡ length slots.old }
-    ensures steps { steps.new ≤ most + 3 * length hashes }
-    ensures past { IsFalse result → most < steps.new }
-{
-    if insert_each(old, slots, most, steps) {
-        return true;
-    }
-    slots.clear();
-    false
 }

@@ -13,7 +13,7 @@ use super::Table;
 use crate::growth::{limited, slots_for};
 use crate::hash::KeyHash;
 use crate::index::Index;
-use crate::index::add::{add_new_key, add_new_keys};
+use crate::index::add::{STEPS_A_PAIR, add_new_key, add_new_keys};
 use crate::index::fill::fill_sorted;
 use crate::slot::Modulus;
 use crate::sorting::build::put_sorted;
@@ -23,11 +23,6 @@ use ijson_number::Looks;
 use ijson_string::IString;
 use std::alloc::{AllocError, Global};
 use std::marker::PhantomData;
-
-/// The average number of steps per pair after which the table is built by sorting.
-///
-/// Keys that nobody chose take about three in a small object, and seventeen in one of 30,000 numbered keys.
-const STEPS_A_PAIR: usize = 32;
 
 impl<V: Drop, H: KeyHash> Table<V, H> {
     /// Creates a store by inserting `pairs` in order.

@@ -167,7 +167,8 @@ impl IObject {
     /// Reserves capacity for at least `additional` more entries.
     ///
     /// If there is not enough, the capacity becomes the maximum of twice the old one, the new length, and 4; repeated insertions give
-    /// capacities of 4, 8, 16 and so on. Each entry is moved at most once, and no key is hashed again if the old capacity was above 127.
+    /// capacities of 4, 8, 16 and so on. Each entry is moved at most once, and each key is hashed once, or
+    /// twice if many keys collide.
     ///
     /// # Errors
     ///

@@ -3,47 +3,63 @@ use Rattle.std.proofs.lemmas.Bool.Decides.{nat_tests}
 use Rattle.std.proofs.lemmas.List.{length-set}
 use Rattle.ijson_table.specs.declared.slot.Slot.{Slot}
 use Rattle.ijson_table.specs.Slots.{below, times}
+use Rattle.ijson_table.specs.private.Insertion.{Accepts}
 use Rattle.ijson_table.specs.private.Narrow.{MayHold}
 use Rattle.ijson_table.specs.private.SlotHashes.{positions}
 use Rattle.ijson_table.proofs.shifting.Insertion.{some_empty}
 use Rattle.ijson_table.proofs.shifting.Removal.{not_pending, replaced}
+use Rattle.ijson_table.proofs.shifting.Vacancy.{may_stand}
 use Rattle.ijson_table.proofs.slots.HashesInSlots.{hashes-as, positions-length}
-use Rattle.ijson_table.proofs.slots.ResidentCount.{no_less}
+use Rattle.ijson_table.proofs.slots.IndexInvariant.{no_less}
 use Rattle.ijson_table.proofs.slots.Residents.{one_if-same}
+use Rattle.ijson_table.proofs.index.shift.rehash_one.Given.{Over}
+use Rattle.ijson_table.proofs.index.shift.rehash_one.Goals.{After-take_out}
 use Rattle.ijson_table.proofs.index.shift.rehash_one.Goals as goal
 
 -- the index may be inserted again, by its new hash
-pub insert-requires : goal.insert-requires
-insert-requires g c =
+accepts : (g : Over) (c : After-take_out g) → Accepts (set g.hashes c.args.position c.args.hash) c.take_out.new.slots c.args.position c.args.hash
+accepts g c =
     let hashes : List ℕ = g.hashes in
     let position : ℕ = c.args.position in
     let left : List Slot = c.take_out.new.slots in
     let held = c.take_out.ensures.holds in
     let room : length hashes ≤ length c.args.slots.now =
     omega (arith, no_less (length hashes) (positions c.args.slots.now) c.requires.0.table.placed, positions-length c.args.slots.now) in
-    let none : times position (positions left) ≡ 0 = grind (arith, nat_tests, held.placed position, one_if-same position, c.requires.1.0) in (
-      record {
-        fits = omega (arith, room, c.requires.1.0, c.requires.1.1.0);
-        hash_is = sym (get_or-set_same hashes position c.args.hash 0 c.requires.1.0);
-        hashes_are = hashes-as hashes (set hashes position c.args.hash) left c.take_out.ensures.hashes (λ p k lp e.
-            get_or-set_other hashes position k c.args.hash 0 (not_pending hashes (length hashes) position (positions left) held p k lp e));
-        ordered = (replaced hashes position c.args.hash (positions left) held).ordered;
-        empty = some_empty (positions left) (length hashes) position (λ i. omega (arith, held.placed i)) c.requires.1.0 none
-            (omega (arith, room, c.take_out.ensures.count, positions-length left));
-      },
-      subst (λ n. MayHold n position c.args.hash) (sym c.take_out.ensures.count) c.requires.1.1.1.1,
+    let none : times position (positions left) ≡ 0 = grind (arith, nat_tests, held.placed position, one_if-same position, c.requires.1.0) in
+    record {
+      fits = omega (arith, room, c.requires.1.0, c.requires.1.1.0);
+      hash_is = sym (get_or-set_same hashes position c.args.hash 0 c.requires.1.0);
+      hashes_are = hashes-as hashes (set hashes position c.args.hash) left c.take_out.ensures.hashes (λ p k lp e.
+          get_or-set_other hashes position k c.args.hash 0 (not_pending hashes (length hashes) position (positions left) held p k lp e));
+      ordered = (replaced hashes position c.args.hash (positions left) held).ordered;
+      empty = some_empty (positions left) (length hashes) position (λ i. omega (arith, held.placed i)) c.requires.1.0 none
+          (omega (arith, room, c.take_out.ensures.count, positions-length left));
+    }
+
+pub vacancy-slot-requires : goal.vacancy-slot-requires
+vacancy-slot-requires g c = (accepts g (goal.at.vacancy-slot-requires g c).After-take_out).empty
+
+pub shift_forward-requires : goal.shift_forward-requires
+shift_forward-requires g c =
+    let may = accepts g (goal.at.shift_forward-requires g c).After-take_out in (
+      (
+        may,
+        may_stand (set g.hashes c.args.position c.args.hash) c.take_out.new.slots c.args.position c.args.hash c.vacancy-slot.result may
+            c.vacancy-slot.ensures,
+      ),
+      subst (λ n. MayHold n c.args.position c.args.hash) (sym c.take_out.ensures.count) c.requires.1.1.1.1,
     )
 
 pub returns-clause-table : goal.returns-clause-table
 returns-clause-table g c = record {
   table = record {
-    ordered = c.insert.ensures.holds.ordered;
+    ordered = c.shift_forward.ensures.holds.ordered;
     placed = λ i. omega (
       arith,
-      c.insert.ensures.holds.placed i,
+      c.shift_forward.ensures.holds.placed i,
       c.take_out.ensures.holds.placed i,
       ap (λ n. below n i) (length-set g.hashes c.args.position c.args.hash),
     );
   };
-  hashes_are = c.insert.ensures.hashes;
+  hashes_are = c.shift_forward.ensures.hashes_are;
 }

@@ -4,5 +4,5 @@ use Rattle.ijson_table.proofs.index.shift.rehash_one.Given as goal
 abbrev pub ghost-take_out : goal.ghost-take_out
 ghost-take_out g a = g.hashes
 
-abbrev pub ghost-insert : goal.ghost-insert
-ghost-insert g a = set g.hashes a.position a.hash
+abbrev pub ghost-shift_forward : goal.ghost-shift_forward
+ghost-shift_forward g a = set g.hashes a.position a.hash

@@ -9,7 +9,7 @@ use Rattle.ijson_table.proofs.slots.HashesInSlots.{positions-length, hashes-at, 
 use Rattle.ijson_table.proofs.shifting.Insertion.{held_below}
 use Rattle.ijson_table.proofs.shifting.Removal.{stands_still, renamed, not_pending, held_once}
 use Rattle.ijson_table.proofs.slots.NarrowSlots.{fits_at}
-use Rattle.ijson_table.proofs.slots.ResidentCount.{no_less}
+use Rattle.ijson_table.proofs.slots.IndexInvariant.{no_less}
 use Rattle.ijson_table.proofs.slots.Residents.{stands_once}
 use Rattle.ijson_table.proofs.shifting.ListSwapRemove.{swap_remove-same, swap_remove-other}
 use Rattle.ijson_table.proofs.index.shift.swap_remove.Goals as goal

@@ -1,18 +1,21 @@
-use Rattle.std.proofs.Common.{◌≡◌, ℕ, ◌-◌, ◌%◌, ◌<◌, length, map, arith, rules, ap, ap₂, subst, ◌∙◌}
+use Rattle.std.proofs.Common.{◌≡◌, ℕ, ◌+◌, ◌-◌, ◌%◌, ◌<◌, List, length, map, Option, arith, rules, ap, ap₂, subst, ◌∙◌}
 use Rattle.std.proofs.Math.Nat.{mod-lt}
+use Rattle.std.proofs.lemmas.Bool.Decides.{nat_tests}
 use Rattle.std.specs.Prelude.{vec_capacity}
 use Rattle.ijson_table.specs.declared.index.probe.Probed.TheVariants.{Full}
 use Rattle.ijson_table.specs.Slots.{IsTable, IsBounded}
 use Rattle.ijson_table.specs.Placed.{Placed}
 use Rattle.ijson_table.specs.Store.{keys_of}
 use Rattle.ijson_table.specs.private.CountedSteps.{Walks}
+use Rattle.ijson_table.specs.private.Holds.{HasEmpty}
 use Rattle.ijson_table.specs.private.KeptHash.{kept, kept_hash}
 use Rattle.ijson_table.specs.private.Lookup.{LookUpEnds}
 use Rattle.ijson_table.proofs.pairs.Shown.{hashes_in}
 use Rattle.ijson_table.proofs.probing.LookCount.{within_list}
 use Rattle.ijson_table.proofs.probing.KeyHashes.{table_whole, find_ends, find_bounded, nowhere}
+use Rattle.ijson_table.proofs.shifting.Insertion.{some_empty}
 use Rattle.ijson_table.proofs.slots.KeptHashes.{home_of_kept, ends_by_hash, bounded_by_hash}
-use Rattle.ijson_table.proofs.table.Table.find.Goals.{After-probe_for}
+use Rattle.ijson_table.proofs.table.Table.find.Goals.{After-len-slots, After-probe_for}
 use Rattle.ijson_table.proofs.table.Table.find.Goals as goal
 
 pub probe_for-requires-clause-fits : goal.probe_for-requires-clause-fits
@@ -33,10 +36,19 @@ pub probe_for-requires-clause-homed : goal.probe_for-requires-clause-homed
 probe_for-requires-clause-homed g c = home_of_kept c.new-modulus.result.count c.args.hash c.kept_hash-kept.result
     c.home_of_hash-home.result c.kept_hash-kept.ensures c.home_of_hash-home.ensures.value
 
-pub returns-then-slots-eq0-clause-table : goal.returns-then-slots-eq0-clause-table
-returns-then-slots-eq0-clause-table g c =
-    subst (λ (t : Placed g.row.V.Denot). IsTable (map g.H.KeyHash.hash_of (keys_of t.store.pairs)) t.slots) c.self.view_is
-    (table_whole g.H.KeyHash.hash_of c.self.inside.pairs.items c.self.inside.index c.self.invariant.hashes c.len-slots.ensures.table)
+-- slots that are more than the keys are not full
+left_empty : (hashes : List ℕ) (slots : List (Option ℕ)) → IsTable hashes slots → length hashes < length slots → HasEmpty slots
+left_empty hashes slots table room = some_empty slots (length hashes + 1) (length hashes) (λ i. grind (arith, nat_tests, table.placed i))
+    (omega arith) (grind (arith, nat_tests, table.placed (length hashes))) (omega (arith, room))
+
+-- so with spare capacity, a slot is empty
+spare : (g : _) (c : After-len-slots g) → length c.args.self.now.store.pairs < c.args.self.now.store.capacity → HasEmpty c.args.self.now.slots
+spare g c = subst (λ (t : Placed g.row.V.Denot). length t.store.pairs < t.store.capacity → HasEmpty t.slots) c.self.view_is
+    (λ room. left_empty c.self.inside.index.hashes c.self.inside.index.slots c.len-slots.ensures.table
+    (omega (arith, room, hashes_in c.self.invariant, c.self.invariant.size)))
+
+pub returns-then-slots-eq0-clause-empty : goal.returns-then-slots-eq0-clause-empty
+returns-then-slots-eq0-clause-empty g c = spare g (goal.at.returns-then-slots-eq0-clause-empty g c).After-len-slots
 
 pub returns-then-slots-eq0-clause-ends : goal.returns-then-slots-eq0-clause-ends
 returns-then-slots-eq0-clause-ends g c =
@@ -62,10 +74,8 @@ returns-then-slots-eq0-clause-bounded g c = record {
   );
 }
 
-pub returns-clause-table : goal.returns-clause-table
-returns-clause-table g c =
-    subst (λ (t : Placed g.row.V.Denot). IsTable (map g.H.KeyHash.hash_of (keys_of t.store.pairs)) t.slots) c.self.view_is
-    (table_whole g.H.KeyHash.hash_of c.self.inside.pairs.items c.self.inside.index c.self.invariant.hashes c.len-slots.ensures.table)
+pub returns-clause-empty : goal.returns-clause-empty
+returns-clause-empty g c = spare g (goal.at.returns-clause-empty g c).After-len-slots
 
 -- the probe uses the kept part of the hash of the key
 kept_is : (g : _) (c : After-probe_for g) → c.kept_hash-kept.result ≡ kept_hash (length c.self.inside.index.slots) g.H.KeyHash.hash_of c.args.key.now

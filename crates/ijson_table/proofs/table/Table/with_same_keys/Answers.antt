@@ -1,22 +1,29 @@
-use Rattle.std.proofs.Common.{◌≡◌, length, map, arith, ap, ap₂, sym, subst, ◌∙◌}
+use Rattle.std.proofs.Common.{◌≡◌, length, map, arith, ap, sym, subst, ◌∙◌}
 use Rattle.std.specs.Prelude.{vec_capacity}
 use Rattle.ijson_number.proofs.AnyAnswer.{where_refused}
 use Rattle.ijson_table.specs.Crowd.{slot_count}
 use Rattle.ijson_table.specs.Store.{keys_of, IsDistinct}
 use Rattle.ijson_table.specs.private.KeptHash.{kept_hash}
 use Rattle.ijson_table.proofs.pairs.PairsByKey.{keys-length}
+use Rattle.ijson_table.proofs.pairs.Shown.{count_shown}
+use Rattle.ijson_table.proofs.table.Table.with_same_keys.Goals.{After-len-capacity}
 use Rattle.ijson_table.proofs.table.Table.with_same_keys.Goals as goal
 
-pub index_with_slots-requires : goal.index_with_slots-requires
-index_with_slots-requires g c = omega (
-  arith,
-  ap length c.requires,
-  keys-length c.args.pairs.items,
-  keys-length c.args.self.now.store.pairs,
-  c.slots_for.ensures,
-  c.len-capacity.ensures,
-  c.args.pairs.ok.0,
-)
+-- the capacity is the number of both lists of pairs
+sized : (g : _) (c : After-len-capacity g) → (c.len-capacity.result ≡ length c.args.self.now.store.pairs)
+    × (c.len-capacity.result ≡ length c.args.pairs.items)
+sized g c =
+    let len : c.len-capacity.result ≡ length c.args.self.now.store.pairs =
+    c.len-capacity.ensures ∙ (c.self.inside.pairs.ok.0 ∙ count_shown c.self.view_is) in
+    (len, omega (arith, len, ap length c.requires, keys-length c.args.pairs.items, keys-length c.args.self.now.store.pairs))
+
+pub index_with_capacity-requires-clause-room : goal.index_with_capacity-requires-clause-room
+index_with_capacity-requires-clause-room g c =
+    let are = sized g (goal.at.index_with_capacity-requires-clause-room g c).After-len-capacity in
+    record {
+      within = omega (arith, are.0);
+      limited = omega (arith, c.len-capacity.ensures, c.self.inside.pairs.ok.0, c.self.invariant.room.within, c.self.invariant.room.limited);
+    }
 
 pub invariant_of-result : goal.invariant_of-result
 invariant_of-result g c = (
@@ -26,28 +33,18 @@ invariant_of-result g c = (
 
 pub invariant_of-result-2 : goal.invariant_of-result-2
 invariant_of-result-2 g c =
-    let room : vec_capacity c.tighten.new.list ≡ length c.args.pairs.items = c.in_ok-tighten.ensures.room in
-    let keys : keys_of c.args.self.now.store.pairs ≡ keys_of c.tighten.new.list.items =
-    sym c.requires ∙ ap keys_of (sym c.tighten.ensures.items) in
+    let made = c.in_ok-index.ensures.placed in
+    let are = sized g (goal.at.invariant_of-result-2 g c).After-len-capacity in
+    let room : vec_capacity c.tighten.new.list ≡ c.len-capacity.result = c.in_ok-tighten.ensures.room ∙ sym are.1 in
     record {
-      room = record {
-        within = omega (arith, ap length c.tighten.ensures.items, room);
-        limited = omega (
-          arith,
-          room,
-          ap length c.requires,
-          keys-length c.args.pairs.items,
-          keys-length c.args.self.now.store.pairs,
-          c.index_with_slots.ensures.limited,
-        );
-      };
-      hashes = c.in_ok-index.ensures.hashes
-          ∙ ap₂ (λ n ks. map (kept_hash n g.H.KeyHash.hash_of) ks) (sym c.in_ok-index.ensures.count) keys;
-      size = c.in_ok-index.ensures.count ∙ (c.slots_for.ensures
-          ∙ ap slot_count (omega (arith, c.len-capacity.ensures, c.args.pairs.ok.0, room)));
+      room = record { within = omega (arith, ap length c.tighten.ensures.items, room, are); limited = omega (arith, room, made.room.limited) };
+      hashes = made.hashes ∙ ap (map (kept_hash (length c.in_ok-index.index.slots) g.H.KeyHash.hash_of))
+          (sym c.requires ∙ ap keys_of (sym c.tighten.ensures.items));
+      size = made.size ∙ ap slot_count (sym room);
     }
 
 -- on an error, there are pairs
 pub returns-in_err-index-clause-refused : goal.returns-in_err-index-clause-refused
-returns-in_err-index-clause-refused g c = where_refused c.from_residual.result
-    (omega (arith, c.in_err-index.ensures.refused, c.slots_for.ensures, c.len-capacity.ensures, c.args.pairs.ok.0))
+returns-in_err-index-clause-refused g c =
+    let are = sized g (goal.at.returns-in_err-index-clause-refused g c).After-len-capacity in
+    where_refused c.from_residual.result (omega (arith, c.in_err-index.ensures.refused, are.1))

@@ -51,10 +51,8 @@ set_capacity-requires g c =
     subst (AsksFor (length old.pairs) old.capacity c.args.additional) (c.in_ok-capacity.was ∙ ap Ok c.in-Some.is)
     (asked g (goal.at.set_capacity-requires g c).After-grown_capacity) in
     record {
-      within = omega (arith, asks.1);
+      room = record { within = omega (arith, asks.1); limited = asks.3 };
       grows = λ _. omega (arith, asks.0, asks.1);
-      limited = asks.3;
-      steps = refl;
     }
 
 pub returns-in_ok-set_capacity-in-Some : goal.returns-in_ok-set_capacity-in-Some
@@ -63,7 +61,7 @@ returns-in_ok-set_capacity-in-Some g c =
     let asks : AsksFor (length old.pairs) old.capacity c.args.additional (Ok (Some c.in-Some.capacity)) =
     subst (AsksFor (length old.pairs) old.capacity c.args.additional) (c.in_ok-capacity.was ∙ ap Ok c.in-Some.is)
     (asked g (goal.at.returns-in_ok-set_capacity-in-Some g c).After-grown_capacity) in
-    let resized = c.in_ok-set_capacity-in-Some.ensures.resized in
+    let resized = c.in_ok-set_capacity-in-Some.ensures in
     record {
       grown = (resized.done ∙ asks.2, λ _. omega (arith, resized.done, asks.3));
       room = omega (arith, ap length resized.same, resized.done, asks.1);
@@ -77,7 +75,7 @@ returns-in_err-set_capacity-in-Some g c =
     let asks : AsksFor (length old.pairs) old.capacity c.args.additional (Ok (Some c.in-Some.capacity)) =
     subst (AsksFor (length old.pairs) old.capacity c.args.additional) (c.in_ok-capacity.was ∙ ap Ok c.in-Some.is)
     (asked g (goal.at.returns-in_err-set_capacity-in-Some g c).After-grown_capacity) in
-    let resized = c.in_err-set_capacity-in-Some.ensures.resized in
+    let resized = c.in_err-set_capacity-in-Some.ensures in
     rw (p.1, p.2) (record {
       grown = (
         resized.refused.1,

@@ -25,17 +25,18 @@ pub set_capacity-requires : goal.set_capacity-requires
 set_capacity-requires g c =
     let are = sizes g (goal.at.set_capacity-requires g c).After-capacity in
     record {
-      within = omega (arith, are.0);
+      room = record {
+        within = omega (arith, are.0);
+        limited = omega (arith, c.len-len.ensures, c.self.inside.pairs.ok.0, c.self.invariant.room.within, c.self.invariant.room.limited);
+      };
       grows = λ less. omega (arith, are.0, less);
-      limited = omega (arith, c.len-len.ensures, c.self.inside.pairs.ok.0, c.self.invariant.room.within, c.self.invariant.room.limited);
-      steps = refl;
     }
 
 pub returns-in_err-set_capacity : goal.returns-in_err-set_capacity
 returns-in_err-set_capacity g c =
     let p = err_from_is_err_and c.from_residual.result c.from_residual.ensures.1 in
     let are = sizes g (goal.at.returns-in_err-set_capacity g c).After-capacity in
-    let resized = c.in_err-set_capacity.ensures.resized in
+    let resized = c.in_err-set_capacity.ensures in
     rw (p.1, p.2) (record {
       room = (
         resized.refused.1,
@@ -47,6 +48,6 @@ returns-in_err-set_capacity g c =
 
 pub returns : goal.returns
 returns g c = record {
-  room = c.in_ok-set_capacity.ensures.resized.done ∙ (sizes g (goal.at.returns g c).After-capacity).0;
-  pairs = c.in_ok-set_capacity.ensures.resized.same;
+  room = c.in_ok-set_capacity.ensures.done ∙ (sizes g (goal.at.returns g c).After-capacity).0;
+  pairs = c.in_ok-set_capacity.ensures.same;
 }
