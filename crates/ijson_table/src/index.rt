@@ -20,7 +20,7 @@ ghost use Rattle.ijson_table.specs.private.CountedSteps.{Walks};
 ghost use Rattle.ijson_table.specs.private.Holds.{MayStand};
 ghost use Rattle.ijson_table.specs.private.Insertion.{EndsWith};
 ghost use Rattle.ijson_table.specs.private.KeptHash.{kept};
-ghost use Rattle.ijson_table.specs.private.Probe.{AreFull, Passed};
+ghost use Rattle.ijson_table.specs.private.Probe.{Passed};
 ghost use Rattle.ijson_table.specs.private.SlotHashes.{position_in, HasHash};
 
 pub mod add;
@@ -172,7 +172,6 @@ impl Index {
         ensures count { length self.new.slots ≡ length self.old.slots }
         ensures within { result < length self.old.slots }
         ensures empty { resident self.old.slots result ≡ None }
-        ensures passed { AreFull self.old.slots slot (distance (length self.old.slots) slot result) }
         ensures changes { changes self.old.slots self.new.slots ≤ distance (length self.old.slots) slot result + 1 }
     {
         self.slots.shift_forward(slot, position, hash)

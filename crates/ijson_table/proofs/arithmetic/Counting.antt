@@ -46,10 +46,6 @@ greatest-at (suc k) f s h = elim (eqb s k) as (λ b. eqb s k ≡ b → f s ≤ m
   | false ↦ λ e. let lt : s < k = grind (arith, nat_tests) in omega (arith, greatest-at k f s lt)
 ] refl
 
--- a number is less than its successor
-pub one_less : (n m : ℕ) → n + 1 ≡ m → n < m
-one_less n m is = omega arith
-
 -- one step closer to a bound, less remains
 pub less_left : (n m : ℕ) → n < m → m - (n + 1) < m - n
 less_left n m below = omega arith

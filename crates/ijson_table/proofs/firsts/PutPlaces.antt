@@ -9,7 +9,7 @@ use Rattle.ijson_table.specs.Store.{at, keys_of, position_of, put, put_each}
 use Rattle.ijson_table.specs.laws.Store.{keys-with_value}
 use Rattle.ijson_table.proofs.pairs.KeyPositions.{absent-from, head_or_tail, position-first, same_key}
 use Rattle.ijson_table.proofs.pairs.PairsByKey.{keys-length, put-absent, put-present}
-use Rattle.ijson_table.proofs.pairs.PutEach.{put_each-append, put-length}
+use Rattle.ijson_table.proofs.pairs.PutEach.{put_each-append}
 
 -- the index of a key is the first at which it is
 pub position-least : (keys : List (List ℕ)) (key : List ℕ) (i : ℕ) → position_of keys key ≡ Some i → (j : ℕ) → j < length keys
@@ -62,11 +62,6 @@ module _ {V : Type 0} where
   at-put_each ps (pair ∷ more) key other =
       at-put_each (put ps pair.0 pair.1) more key (λ j lj. other (suc j) (omega arith))
       ∙ at-put_other ps pair.0 key pair.1 (other 0 (omega arith))
-
-  -- inserting pairs adds at most their number
-  pub put_each-length : (ps more : List (List ℕ × V)) → length (put_each ps more) ≤ length ps + length more
-  put_each-length ps [] = omega arith
-  put_each-length ps (pair ∷ more) = omega (arith, put_each-length (put ps pair.0 pair.1) more, put-length ps pair.0 pair.1)
 
   -- one more pair is inserted last
   pub put_each-more : (done : List (List ℕ × V)) (key : List ℕ) (value : V)

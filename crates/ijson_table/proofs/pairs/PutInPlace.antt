@@ -2,9 +2,8 @@
 use Rattle.std.proofs.Common.{◌≡◌, ℕ, ◌+◌, ◌<◌, ◌≤◌, arith, List, [], ◌∷◌, ◌++◌, length, get_or, set, take, drop, Some, None, sym, ap, ap₂, ◌∙◌}
 use Rattle.std.proofs.Common.{length-take-le, le_of_lt}
 use Rattle.std.specs.Prelude.{swap}
-use Rattle.std.proofs.Math.Numerals.{add-one}
-use Rattle.std.proofs.Math.Seq.{drop-cons, take-set-lt}
-use Rattle.std.proofs.lemmas.List.{drop-set-lt, get_or_default, take_more, take-set-le}
+use Rattle.std.proofs.Math.Seq.{take-set-lt}
+use Rattle.std.proofs.lemmas.List.{at_drop_more, drop-set-lt, get_or_default, take_more, take-set-le}
 use Rattle.std.proofs.lemmas.List.Edits.{length-swap, swap_is, swapped_from_swap}
 use Rattle.ijson_table.specs.Store.{at, keys_of, put, put_each, with_value}
 use Rattle.ijson_table.specs.laws.Store.{keys-with_value}
@@ -25,24 +24,20 @@ module _ {X : Type 0} where
       drop-set-lt n (set (x ∷ xs) i (get_or (x ∷ xs) j x)) j (get_or (x ∷ xs) i x) nj ∙ drop-set-lt n (x ∷ xs) i (get_or (x ∷ xs) j x) ni
 
 -- the pair at p is put behind the first k
-record Moved {V : Type 0} (old new : List (List ℕ × V)) (k p : ℕ) : Type 0 where
-  pair : List ℕ × V
-  is : pair ≡ get_or new k pair
-  left : put_each (put (take k old) pair.0 pair.1) (drop (p + 1) new) ≡ put_each (take k old) (drop p old)
+pub record Moved {V : Type 0} (old new : List (List ℕ × V)) (k p : ℕ) : Type 0 where
+  pub pair : List ℕ × V
+  pub is : pair ≡ get_or new k pair
+  pub was : pair ≡ get_or old p pair
 
 moved : {V : Type 0} (old new : List (List ℕ × V)) (k p : ℕ) → k ≤ p → p < length old → new ≡ swap old k p → Moved old new k p
 moved [] new k p kp lp is = absurd (omega arith)
 moved (x ∷ xs) new k p kp lp is =
-    let old : List (List ℕ × _) = x ∷ xs in
-    let pair : List ℕ × _ = get_or old p x in
-    let next : drop p old ≡ pair ∷ drop (p + 1) old = drop-cons old p x lp ∙ ap (λ n. pair ∷ drop n old) (sym (add-one p)) in
+    let pair : List ℕ × _ = get_or (x ∷ xs) p x in
     record {
       pair = pair;
-      is = sym (get_or_default new k pair x (omega (arith, kp, lp, ap length is, length-swap old k p))
-          ∙ (swapped_from_swap old new k p x (omega (arith, kp, lp)) lp is).0);
-      left = ap (λ more. put_each (put (take k old) pair.0 pair.1) more)
-          (ap (drop (p + 1)) is ∙ drop-swap old (p + 1) k p (omega (arith, kp)) (omega arith) (omega (arith, kp, lp)))
-          ∙ ap (put_each (take k old)) (sym next);
+      is = sym (get_or_default new k pair x (omega (arith, kp, lp, ap length is, length-swap (x ∷ xs) k p))
+          ∙ (swapped_from_swap (x ∷ xs) new k p x (omega (arith, kp, lp)) lp is).0);
+      was = get_or_default (x ∷ xs) p x pair lp;
     }
 
 module _ {V : Type 0} (old new : List (List ℕ × V)) (k p : ℕ) (kp : k ≤ p) (lp : p < length old) (is : new ≡ swap old k p) where
@@ -50,26 +45,37 @@ module _ {V : Type 0} (old new : List (List ℕ × V)) (k p : ℕ) (kp : k ≤ p
   pub moved_first : take k new ≡ take k old
   moved_first = ap (take k) is ∙ take-swap old k k p (omega arith) kp (omega (arith, kp, lp))
 
+  -- so do those after p
+  pub moved_left : drop (p + 1) new ≡ drop (p + 1) old
+  moved_left = ap (drop (p + 1)) is ∙ drop-swap old (p + 1) k p (omega (arith, kp)) (omega arith) (omega (arith, kp, lp))
+
   within : k < length new
   within = omega (arith, kp, lp, ap length is, length-swap old k p)
 
-  next : Moved old new k p
+  pub next : Moved old new k p
   next = moved old new k p kp lp is
 
-  next_key : get_or (keys_of new) k [] ≡ next.pair.0
+  pub next_key : get_or (keys_of new) k [] ≡ next.pair.0
   next_key = key_at new k next.pair within ∙ ap (λ x. x.0) (sym next.is)
 
+  -- so inserting those from p on is inserting this one and then those after it
+  next_left : put_each (put (take k old) next.pair.0 next.pair.1) (drop (p + 1) new) ≡ put_each (take k old) (drop p old)
+  next_left = ap (put_each (put (take k old) next.pair.0 next.pair.1)) moved_left
+      ∙ sym (at_drop_more (put_each (take k old)) old p next.pair lp ∙ ap (λ x. put_each (put (take k old) x.0 x.1) (drop (p + 1) old)) (sym next.was))
+
   -- if its key is new, there is one more
+  pub one_more : at (take k new) (get_or (keys_of new) k []) ≡ None → take (k + 1) new ≡ put (take k old) next.pair.0 next.pair.1
+  one_more missing =
+      take_more new k next.pair within ∙ (ap (λ x. take k new ++ x ∷ []) (sym next.is)
+      ∙ (sym (put-absent (take k new) next.pair.0 next.pair.1 (ap (at (take k new)) (sym next_key) ∙ missing))
+      ∙ ap (λ ps. put ps next.pair.0 next.pair.1) moved_first))
+
   pub put_next : at (take k new) (get_or (keys_of new) k []) ≡ None
       → put_each (take (k + 1) new) (drop (p + 1) new) ≡ put_each (take k old) (drop p old)
-  put_next missing = ap (λ ps. put_each ps (drop (p + 1) new))
-      (take_more new k next.pair within ∙ (ap (λ x. take k new ++ x ∷ []) (sym next.is)
-      ∙ (sym (put-absent (take k new) next.pair.0 next.pair.1 (ap (at (take k new)) (sym next_key) ∙ missing))
-      ∙ ap (λ ps. put ps next.pair.0 next.pair.1) moved_first)))
-      ∙ next.left
+  put_next missing = ap (λ ps. put_each ps (drop (p + 1) new)) (one_more missing) ∙ next_left
 
   module _ (i : ℕ) (found : at (take k new) (get_or (keys_of new) k []) ≡ Some i) where
-    before : i < k
+    pub before : i < k
     before = omega (arith, position_within (take k new) (get_or (keys_of new) k []) i found, length-take-le k new (le_of_lt within))
 
     -- if its key is at i, it replaces the pair there,
@@ -78,7 +84,8 @@ module _ {V : Type 0} (old new : List (List ℕ × V)) (k p : ℕ) (kp : k ≤ p
         let first : List (List ℕ × V) = take k new in
         let there : i < length first = omega (arith, before, length-take-le k new (le_of_lt within)) in
         let pair : List ℕ × V = get_or first i next.pair in
-        let same : pair.0 ≡ next.pair.0 = sym (key_at first i next.pair there) ∙ ((position-some (keys_of first) (get_or (keys_of new) k []) i found).1 ∙ next_key) in
+        let same : pair.0 ≡ next.pair.0 = sym (key_at first i next.pair there)
+        ∙ ((position-some (keys_of first) (get_or (keys_of new) k []) i found).1 ∙ next_key) in
         ap (take k) (sym (swap_is new i k next.pair (omega (arith, before, within)) within))
         ∙ (take-set-le k (set new i (get_or new k next.pair)) k (get_or new i next.pair) (omega arith)
         ∙ (take-set-lt k new i (get_or new k next.pair) before
@@ -90,9 +97,12 @@ module _ {V : Type 0} (old new : List (List ℕ × V)) (k p : ℕ) (kp : k ≤ p
     over_keys = ap keys_of over ∙ (keys-with_value (take k new) i next.pair.1 ∙ ap keys_of moved_first)
 
     -- and is inserted
+    pub over_put : take k (swap new i k) ≡ put (take k old) next.pair.0 next.pair.1
+    over_put = over ∙ (sym (put-present (take k new) i next.pair.0 next.pair.1 (ap (at (take k new)) (sym next_key) ∙ found))
+        ∙ ap (λ ps. put ps next.pair.0 next.pair.1) moved_first)
+
+    pub over_left : drop (p + 1) (swap new i k) ≡ drop (p + 1) new
+    over_left = drop-swap new (p + 1) i k (omega (arith, before, kp)) (omega (arith, kp)) (omega (arith, before, within))
+
     pub put_over : put_each (take k (swap new i k)) (drop (p + 1) (swap new i k)) ≡ put_each (take k old) (drop p old)
-    put_over = ap₂ put_each
-        (over ∙ (sym (put-present (take k new) i next.pair.0 next.pair.1 (ap (at (take k new)) (sym next_key) ∙ found))
-        ∙ ap (λ ps. put ps next.pair.0 next.pair.1) moved_first))
-        (drop-swap new (p + 1) i k (omega (arith, before, kp)) (omega (arith, kp)) (omega (arith, before, within)))
-        ∙ next.left
+    put_over = ap₂ put_each over_put over_left ∙ next_left

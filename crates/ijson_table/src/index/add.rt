@@ -58,6 +58,7 @@ pub fn add_new_keys<V, H: KeyHash>(
 ///
 /// The steps are counted. Those of a new key follow from the last slot written: each slot from its home slot to there
 /// was inspected or written, and the one at which the probe ended was both.
+#[inline(always)]
 pub fn add_new_key<V, H: KeyHash>(
     pairs: &[(IString, V)],
     index: &mut Index,

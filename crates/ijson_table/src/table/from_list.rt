@@ -38,9 +38,9 @@ impl<V: Drop, H: KeyHash> Table<V, H> {
     /// # Cost
     ///
     /// Each key is hashed once, and the first duplicate twice. The time is linear in the number of pairs if few keys
-    /// collide. If many do, the table is built by sorting: each key is hashed up to three times, entries of 16 bytes
-    /// per pair are sorted in temporary memory, and the pairs move to another list. So, for all keys, the time is at
-    /// most O(n log n), plus that of the hashes and of comparing keys of one hash.
+    /// collide. If many do, the table is built by sorting: each key is hashed up to three times, and entries of 16 bytes
+    /// per pair are sorted in temporary memory. So, for all keys, the time is at most O(n log n), plus that of the
+    /// hashes and of comparing keys of one hash.
     pub fn from_pairs(alloc: Global, pairs: Vec<(IString, V)>) -> Result<Table<V, H>, ReserveError>
         ensures pairs { IfOk result (λ table. table.store.pairs ≡ put_each [] pairs.items) }
         ensures capacity { IfOk result (λ table. table.store.capacity ≡ length pairs.items) }

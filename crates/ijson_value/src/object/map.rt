@@ -104,9 +104,8 @@ impl IObject {
     /// # Cost
     ///
     /// If few keys collide, it takes linear time and hashes each key once, the first duplicate twice. Entries before the first duplicate
-    /// are not moved; the others are taken off and inserted one by one. If many keys collide, each is hashed up to three times, 16 bytes
-    /// for each entry are allocated and sorted, and the entries move to another list. That takes at most n log n time, plus hashing the
-    /// keys and comparing keys with equal hashes.
+    /// are not moved; the others move down within the list. If many keys collide, each is hashed up to three times, and 16 bytes for each
+    /// entry are allocated and sorted. That takes at most n log n time, plus hashing the keys and comparing keys with equal hashes.
     pub fn from_pairs(alloc: Global, pairs: Vec<(IString, IValue)>) -> Result<IObject, ReserveError>
         ensures pairs { IfOk result (λ object. object.pairs ≡ put_each [] pairs.items) }
         ensures capacity { IfOk result (λ object. object.capacity ≡ length pairs.items) }
