@@ -1,6 +1,5 @@
 pub mod Law
 pub mod Pointers
-pub mod Rows
 pub mod lends
 pub mod numbers
 pub mod ordering

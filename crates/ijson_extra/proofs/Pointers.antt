@@ -91,11 +91,6 @@ meant_itself [] h = refl
 meant_itself (b ∷ token) h = tilde b token (ne_eqb b 126 (h 0 (omega arith)))
     ∙ ap (option_map (λ t. b ∷ t)) (meant_itself token (tail_lacks 126 b token h))
 
-abbrev first_of : Option (List ℕ) → ℕ
-first_of None = 0
-first_of (Some []) = 0
-first_of (Some (b ∷ bs)) = b
-
 -- only the empty text means the empty key
 some_longer : (b : ℕ) (o : Option (List ℕ)) → option_map (λ token. b ∷ token) o ≡ Some [] → ⊥
 some_longer b None e = absurd (cc)

@@ -13,9 +13,13 @@ use mir.Syntax.{Body, Callee, Opd as Operand, Place, seq, call}
 use mir.Val.{Val}
 use prog.Wp.{Env, Calls, Loops}
 use sound.WpLaws.{FmC}
-use types.Kit.{Item, Post, Seq, mean, runs, lands, ‵, raw, ◌⊛◌, some, later, ◌$◌, move, drop, split, join, use0, use1, use2, pick, await}
+use types.Kit.{Item, Post, Seq, mean, runs, lands, ‵, raw, ◌⊛◌, some, later, ◌$◌, ◌∵◌, !, qed, done, move, drop, split, join, use0, use1, use2, pick, await}
 use types.Logic.{Logic}
 use types.Run.{Opds}
+
+-- for a call that requires nothing
+pub no_need : {M : Type 1} {𝓤 : Ura M} (𝓛 : Logic 𝓤) → ent 𝓤 (emp 𝓤) (mean 𝓛 (‵ ftrue))
+no_need 𝓛 = qed 𝓛 [] ∵ nothing ! $ done !
 
 module _ {M : Type 1} {𝓤 : Ura M} (𝓛 : Logic 𝓤) {K : Type 0} {Γ : List (Item 𝓤)} {E : Env 𝓤 𝓛.H} {C : Calls 𝓤 𝓛.H} {Λ : Loops 𝓤 𝓛.H}
     {f : Callee} {xs : List Operand} {d : Place} {rest : Body} {post : Post 𝓤 𝓛.H} (t : K) (κ : Lft) (q : Share)
@@ -40,7 +44,8 @@ module _ {M : Type 1} {𝓤 : Ura M} (𝓛 : Logic 𝓤) {K : Type 0} {Γ : List
       pick t (λ ws. split t $ drop t $ split t $ move t (1 ∷ 2 ∷ 0 ∷ []) $ go w y ((laws.lawful 𝓛).typed y (w ∷ []) seen)))))
 
   -- the mapped result, the token and what is known of the result
-  pub maps : (own : Fml) → ent 𝓤 (sep 𝓤 (mean 𝓛 ((‵ (flft κ q) ⊛ ‵ ftrue) ⊛ ‵ own ⊛ ‵ ftrue)) (mean 𝓛 (‵ ftrue))) (c.pre x)
+  pub maps : (own : Fml) (i : Item 𝓤) → ent 𝓤 (emp 𝓤) (mean 𝓛 i)
+      → ent 𝓤 (sep 𝓤 (mean 𝓛 ((‵ (flft κ q) ⊛ ‵ ftrue) ⊛ ‵ own ⊛ ‵ ftrue)) (mean 𝓛 i)) (c.pre x)
       → Opds K 𝓛 (raw (c.pre x) ∷ Γ) E xs (c.args x)
       → (L : R.Denot → W → Fml) (J : R.Denot → Item 𝓤)
       → ((w : Val) → ent 𝓤 (c.post x w) (mean 𝓛 (later (some (λ (y : R.Denot).
@@ -48,8 +53,8 @@ module _ {M : Type 1} {𝓤 : Ura M} (𝓛 : Logic 𝓤) {K : Type 0} {Γ : List
       → ((w : Val) (y : R.Denot) → Typed R.mir (w ∷ []) → Seq K 𝓛
       (J y ∷ ‵ (R.own_val y (w ∷ [])) ∷ ‵ (flft κ q) ∷ Γ) (lands C Λ E d w rest post))
       → Seq K 𝓛 (‵ own ∷ ‵ (flft κ q) ∷ Γ) (runs C Λ E (seq (call f xs d) rest) post)
-  maps own enough reads L J gives go =
-      nothing t $ move t (1 ∷ 0 ∷ []) $ join t $ nothing t $ move t (2 ∷ 0 ∷ []) $ join t $ join t $ nothing t $ move t (1 ∷ 0 ∷ []) $
+  maps own i shown enough reads L J gives go =
+      nothing t $ move t (1 ∷ 0 ∷ []) $ join t $ nothing t $ move t (2 ∷ 0 ∷ []) $ join t $ join t $ use0 𝓛 i shown $ move t (1 ∷ 0 ∷ []) $
       use2 𝓛 (raw (c.pre x)) enough $ calls_at t frames c met x reads (λ w.
       use1 𝓛 (later (some (λ (y : R.Denot). ((‵ (flft κ q) ⊛ ‵ ftrue) ⊛ ‵ (R.own_val y (w ∷ []))) ⊛
       some (λ (ws : W). ‵ (L y ws) ⊛ J y)))) (gives w) $ await t tt $ pick t (λ y. split t $ split t $ split t $ move t (2 ∷ []) $

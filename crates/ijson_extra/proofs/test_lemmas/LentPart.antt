@@ -49,7 +49,7 @@ module _ {M : Type 1} {𝓤 : Ura M} (𝓛 : Logic 𝓤) (R : RattleType) (P : V
         → Seq K 𝓛 (‵ ((MutRef (named 0) κ R).own_val (record r { now = n }) (mut_vals r)) ∷ ‵ (flft κ q) ∷ tokens ∷ Γ) G)
         → Seq K 𝓛 (‵ ((OptionOf (MutRef (named 0) (α ∷ []) V)).own_val o vs) ∷ ‵ (flft (α ∷ []) full_share)
         ∷ ‵ (follows_so R V δ m P P₀) ∷ tokens ∷ ‵ (Kept R κ q r α δ) ∷ Γ) G
-    written_back m o vs tokens named k =
-        rewrite t 2 (λ (n : maybe.Option GName). ‵ (follows_so R V δ n P P₀)) named refl $ move t (0 ∷ 2 ∷ []) $
+    written_back m o vs tokens same k =
+        rewrite t 2 (λ (n : maybe.Option GName). ‵ (follows_so R V δ n P P₀)) same refl $ move t (0 ∷ 2 ∷ []) $
         use2 𝓛 (‵ (fex ((z : R.Denot) × Left P P₀ o z) (λ s. fres δ (R.coded.code s.0)))) (left_so (α ∷ []) δ o vs) $ fpick t (λ s.
         move t (1 ∷ []) $ lft_end t soaks $ move t (0 ∷ 3 ∷ 1 ∷ []) $ back 𝓛 t soaks R κ q r α δ s.0 $ k s.0 s.1)

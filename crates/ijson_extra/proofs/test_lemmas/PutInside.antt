@@ -9,35 +9,17 @@ use Rattle.ijson_value.specs.Tree.{object, members_of}
 use Rattle.ijson_value.specs.Values.{object_tree}
 use Rattle.ijson_value.specs.WellFormed.{WellFormed}
 use Rattle.ijson_value.specs.declared.value.Destructured.{Destructured}
-use Rattle.ijson_value.specs.declared.value.Destructured.TheVariants.{Null, Bool, Number, String, Array, Object}
+use Rattle.ijson_value.specs.declared.value.Destructured.TheVariants.{Object}
 use Rattle.ijson_value.specs.laws.MemberTrees.{members_of-list, put-members}
 use Rattle.ijson_value.specs.WellFormed.{pair_trees}
 
 pub is_put_inside : (n m : Destructured) (key : List ℕ) (w : WellFormed) → InObject (λ old. InObject (λ new. IsPut old key w new) m) n
     → (node_value m).tree ≡ tree_with (node_value n).tree (by_key key) w.tree
-is_put_inside Null m key w h = absurd h
-is_put_inside (Bool b) m key w h = absurd h
-is_put_inside (Number x) m key w h = absurd h
-is_put_inside (String s) m key w h = absurd h
-is_put_inside (Array a) m key w h = absurd h
-is_put_inside (Object o) Null key w h = absurd h
-is_put_inside (Object o) (Bool b) key w h = absurd h
-is_put_inside (Object o) (Number x) key w h = absurd h
-is_put_inside (Object o) (String s) key w h = absurd h
-is_put_inside (Object o) (Array a) key w h = absurd h
 is_put_inside (Object o) (Object p) key w h =
     ap object_tree h.0 ∙ ap object (sym (members_of-list (pair_trees (put o.pairs key w))) ∙ ap members_of (put-members o.pairs key w))
+is_put_inside n m key w h = absurd h
 
 pub is_kept_inside : (n m : Destructured) → InObject (λ old. InObject (λ new. (new.pairs ≡ old.pairs) × (new.capacity ≡ old.capacity)) m) n
     → (node_value m).tree ≡ (node_value n).tree
-is_kept_inside Null m h = absurd h
-is_kept_inside (Bool b) m h = absurd h
-is_kept_inside (Number x) m h = absurd h
-is_kept_inside (String s) m h = absurd h
-is_kept_inside (Array a) m h = absurd h
-is_kept_inside (Object o) Null h = absurd h
-is_kept_inside (Object o) (Bool b) h = absurd h
-is_kept_inside (Object o) (Number x) h = absurd h
-is_kept_inside (Object o) (String s) h = absurd h
-is_kept_inside (Object o) (Array a) h = absurd h
 is_kept_inside (Object o) (Object p) h = ap object_tree h.0
+is_kept_inside n m h = absurd h

@@ -22,7 +22,7 @@ use Rattle.ijson_value.specs.WellFormed.{WellFormed}
 use Rattle.ijson_value.specs.contracts.value.IValue.{the_row as V}
 use Rattle.ijson_value.proofs.lends.LentOn.{then_such}
 use Rattle.ijson_value.proofs.lends.LentLaws.{value_found_laws}
-use Rattle.ijson_extra.proofs.lends.Mapped.{finds, maps}
+use Rattle.ijson_extra.proofs.lends.Mapped.{finds, maps, no_need}
 use Rattle.ijson_extra.specs.LendsNamedValue.{LendsNamedValue, LendsPointed, IfLent, lent_name}
 use Rattle.ijson_extra.specs.Pointer.{resolved, resolved_with}
 use Rattle.ijson_extra.specs.private.Walked.{IsFlat, tree_lent}
@@ -86,7 +86,7 @@ pointer_mut_spec 𝓤 𝓛 𝓜 𝓡 wired =
     move ! (0 ∷ 3 ∷ 1 ∷ 2 ∷ []) $ finds 𝓛 ! κ q (framed 𝓤 𝓛.H 𝓜 𝓣) G
     (g-thm.met 𝓤 𝓛 𝓜 𝓡 (code.calls-ijson_extra::pointer::lend::resolve_mut 𝓡.env wired)) z
     (ResultOf (OptionOf Ref) E) (result_laws (OptionOf Ref) E (value_found_laws κ) E-laws) κ' q' (Ref.own_val r vs) (S.own_val p ps) (‵ ftrue)
-    (qed 𝓛 [] ∵ nothing ! $ done !) (id⊢ 𝓤 _) (and_then ! (get ! refl) (and_then ! (get ! refl) (no_more !)))
+    (no_need 𝓛) (id⊢ 𝓤 _) (and_then ! (get ! refl) (and_then ! (get ! refl) (no_more !)))
     (λ (ws : Unit {0} × (Unit {0} × Unit {0})). lasts g.ended κs (r, (p, tt)) ws) (LendsNamedValue r p.now)
     (λ (x : Lent). raw (fact 𝓤 (IfOk x (λ o. Some (tree_lent o) ≡ found))) ⊛ raw (fact 𝓤 (IfErr x (λ _. found ≡ None)))) (λ v. id⊢ 𝓤 _)
     (λ v x typed. lands_as ! refl refl typed.0 $ split ! $ heard ! _ (λ ok. heard ! _ (λ refused.
@@ -95,7 +95,7 @@ pointer_mut_spec 𝓤 𝓛 𝓜 𝓡 wired =
     let z' : H.Ghost = (((κ, tt), (q, tt), tt, (x, tt), ((v ∷ []), tt)), tt) in
     move ! (0 ∷ 2 ∷ []) $ maps 𝓛 ! κ q (framed 𝓤 𝓛.H 𝓜 𝓣) H
     (h-thm.met 𝓤 𝓛 𝓜 𝓡 (code.calls-ijson_extra::pointer::flat 𝓡.env wired)) z'
-    (OptionOf Ref) (value_found_laws κ) ((ResultOf (OptionOf Ref) E).own_val x (v ∷ [])) (id⊢ 𝓤 _) (and_then ! (get ! refl) (no_more !))
+    (OptionOf Ref) (value_found_laws κ) ((ResultOf (OptionOf Ref) E).own_val x (v ∷ [])) (‵ ftrue) (no_need 𝓛) (id⊢ 𝓤 _) (and_then ! (get ! refl) (no_more !))
     (λ o ws. lasts h.ended (κ, tt) (x, tt) ws) (λ o. raw (fact 𝓤 (IsFlat x o))) (λ w. id⊢ 𝓤 _) (λ w o typed'. heard ! _ (λ is.
     lands_as ! refl refl typed'.0 $ returns ! (look_at ! 0 refl) $ free_all ! refl $
     -- [the result; its token; the formula of the value; the text's token]

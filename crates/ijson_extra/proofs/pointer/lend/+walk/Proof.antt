@@ -19,7 +19,8 @@ use mathlib.Core.Option as maybe
 use mathlib.Core.List.{◌++◌}
 use base.Fml.{fex}
 use mir.Val.{of_list}
-use denote.Text.{Str, StrRefOf, str-laws, str-copy}
+use denote.Text.{Str, StrRefOf, str-field, str-laws, str-copy}
+use denote.Param.Shared.{copy_shared}
 use denote.Slice.{shr_slice_vals}
 use denote.Ref.{NamedLft}
 use Rattle.std.specs.Prelude.{Option, Some, None, length, OnSome}
@@ -40,6 +41,9 @@ use Rattle.ijson_value.proofs.lends.LentOn.{then_such, so_none, none_so}
 use Rattle.ijson_value.proofs.lends.Variants.{by_option, none_out, Some-out}
 use Rattle.ijson_value.specs.contracts.value.IValue.{the_row as V}
 use Rattle.ijson_value.specs.contracts.value.Destructured.{the_row as N}
+use Rattle.ijson_value.proofs.value.Destructured.TheLaws.{the_row_laws as N-laws}
+use Rattle.ijson_value.proofs.lends.Steps.{Laws, of_field, row_shared, mut_ref_field, mut_ref_laws, mut_ref_shared}
+use Rattle.ijson_extra.proofs.lends.Mapped.{finds, maps, no_need}
 use Rattle.ijson_value.specs.declared.value.Destructured.{Destructured}
 use Rattle.ijson_extra.proofs.pointer.lend.+walk.{statement}
 use Rattle.ijson_extra.proofs.pointer.lend.+walk.Code as codes
@@ -78,7 +82,9 @@ pub +walk_spec : {M : Type 1} → statement M
     let m : ℕ = a.1.1.0 in
     let vs = mut_vals r in let ps : List Val = shr_slice_vals p in let ms = uint_vals w64 m in let γ = r.ghost_name in
     let S : RattleType = Str (named 1) κ' in let at : NamedLft = record { mir = named 1; lft = κ' } in
-    let Lent : RattleType = MutRef (named 0) κ V in
+    let Lent : RattleType = MutRef (named 0) κ V in let here : NamedLft = record { mir = named 0; lft = κ } in
+    let Node : RattleType = MutRef (named 0) κ N in
+    let node_laws : Laws Node = of_field (mut_ref_field here N tt) (mut_ref_laws here N tt) refl (mut_ref_shared here N tt (row_shared N N-laws)) in
     let old : Tree = node_tree r.now in let ws = written_tokens p.now in
     let O = λ (x : Found) (w : WellFormed) (n : Destructured). OnSome x (node_tree n ≡ walked_with (steps_of p.now 0) (Some old) w.tree) in
     let P = λ (x : Found) (w : WellFormed) (n : Destructured). OnSome x (node_tree n ≡ walked_with (steps_of p.now m) (Some old) w.tree) in
@@ -97,17 +103,13 @@ pub +walk_spec : {M : Type 1} → statement M
     -- [the text; the text; the content; its token; the text's token; the count]
     let G = triple_of 𝓛 g.signature (g.spec 𝓛 𝓜.mem 𝓡.returns) in
     let z : G.Ghost = (((κ, (κ', tt)), (q, (q', tt)), tt, (r, (p, tt)), (vs, (ps, tt))), tt) in
-    nothing ! $ move ! (1 ∷ 0 ∷ []) $ join ! $ move ! (2 ∷ 0 ∷ []) $ join ! $ nothing ! $ move ! (4 ∷ 0 ∷ []) $ join ! $
-    move ! (3 ∷ 0 ∷ []) $ join ! $ join ! $ nothing ! $ move ! (1 ∷ 0 ∷ []) $
-    use2 𝓛 (raw (G.pre z)) (id⊢ 𝓤 _) $
-    calls_at ! (framed 𝓤 𝓛.H 𝓜 𝓣) G (g-thm.met 𝓤 𝓛 𝓜 𝓡 (codes.calls-ijson_extra::pointer::lend::first_mut 𝓡.env wired)) z
-    (and_then ! (get ! refl) (and_then ! (get ! refl) (no_more !))) (λ v.
-    use1 𝓛 (later
-    (some (λ (x : Option (MutBor V.Denot)). ((‵ (flft κ q) ⊛ ‵ (flft κ' q') ⊛ ‵ ftrue) ⊛ ‵ ((OptionOf Lent).own_val x (v ∷ []))) ⊛
-    some (λ (ends : Unit {0} × (Unit {0} × Unit {0})). ‵ (lasts g.ended (κ, (κ', tt)) (r, (p, tt)) ends) ⊛ ‵ (LendsWalked r p.now 0 x)
-    ⊛ raw (fact 𝓤 (tree_lent x ≡ walked (steps_of p.now 0) (Some old))))))) (id⊢ 𝓤 _) $
-    await ! tt $ pick ! (λ x. split ! $ split ! $ split ! $ move ! (1 ∷ []) $ split ! $ move ! (4 ∷ []) $
-    pick ! (λ _. split ! $ drop ! $ split ! $ move ! (1 ∷ []) $ heard ! _ (λ found.
+    move ! (2 ∷ 0 ∷ 3 ∷ 4 ∷ []) $ finds 𝓛 ! κ q (framed 𝓤 𝓛.H 𝓜 𝓣) G
+    (g-thm.met 𝓤 𝓛 𝓜 𝓡 (codes.calls-ijson_extra::pointer::lend::first_mut 𝓡.env wired)) z (OptionOf Lent) (value_found_laws κ) κ' q'
+    ((MutRef (named 0) κ N).own_val r vs) (S.own_val p ps) (‵ ftrue) (no_need 𝓛) (id⊢ 𝓤 _)
+    (and_then ! (get ! refl) (and_then ! (get ! refl) (no_more !)))
+    (λ (ends : Unit {0} × (Unit {0} × Unit {0})). lasts g.ended (κ, (κ', tt)) (r, (p, tt)) ends) (LendsWalked r p.now 0)
+    (λ (x : Option (MutBor V.Denot)). raw (fact 𝓤 (tree_lent x ≡ walked (steps_of p.now 0) (Some old)))) (λ v. id⊢ 𝓤 _) (λ v x _. heard ! _
+    (λ found. move ! (3 ∷ []) $ split ! $ move ! (3 ∷ 0 ∷ 1 ∷ 4 ∷ 2 ∷ []) $
     -- [the formula of the content; the text's token; nothing; its token; the result; the text; the count]
     by_option x
     (λ none. let found' = subst (λ (x' : Found). tree_lent x' ≡ walked (steps_of p.now 0) (Some old)) none found in
@@ -161,45 +163,32 @@ pub +walk_spec : {M : Type 1} → statement M
           sets ! (addr ! (through ! refl (stop !))) refl (tt, tt) $
           let G₂ = triple_of 𝓛 h.signature (h.spec 𝓛 𝓜.mem 𝓡.returns) in
           let z₂ : G₂.Ghost = (((κ, tt), (q, tt), tt, (value, tt), (mut_vals value, tt)), tt) in
-          move ! (0 ∷ 4 ∷ []) $ nothing ! $ move ! (1 ∷ 0 ∷ []) $ join ! $ nothing ! $ move ! (2 ∷ 0 ∷ []) $ join ! $ join ! $ nothing ! $
-          move ! (1 ∷ 0 ∷ []) $
-          use2 𝓛 (raw (G₂.pre z₂)) (id⊢ 𝓤 _) $
-          calls_at ! (framed 𝓤 𝓛.H 𝓜 𝓣) G₂ (h-thm.met 𝓤 𝓛 𝓜 𝓡 (codes.calls-ijson_extra::pointer::lend::opened 𝓡.env wired)) z₂
-          (and_then ! (get ! refl) (no_more !)) (λ v₂.
-          use1 𝓛 (later (some (λ (u : MutBor Destructured). ((‵ (flft κ q) ⊛ ‵ ftrue) ⊛ ‵ ((MutRef (named 0) κ N).own_val u (v₂ ∷ []))) ⊛
-          some (λ (ends : Unit {0} × Unit {0}). ‵ (lasts h.ended (κ, tt) (value, tt) ends)
-          ⊛ ‵ (follows V N value.ghost_name u.ghost_name node_value) ⊛ raw (fact 𝓤 (node_value u.now ≡ value.now)))))) (id⊢ 𝓤 _) $
-          await ! tt $ pick ! (λ u. split ! $ split ! $ split ! $ move ! (3 ∷ []) $
-          pick ! (λ ws₂. split ! $ drop ! $ split ! $ move ! (1 ∷ []) $
+          move ! (0 ∷ 4 ∷ []) $ maps 𝓛 ! κ q (framed 𝓤 𝓛.H 𝓜 𝓣) G₂
+          (h-thm.met 𝓤 𝓛 𝓜 𝓡 (codes.calls-ijson_extra::pointer::lend::opened 𝓡.env wired)) z₂ Node node_laws
+          (Lent.own_val value (mut_vals value)) (‵ ftrue) (no_need 𝓛) (id⊢ 𝓤 _) (and_then ! (get ! refl) (no_more !))
+          (λ u (ends : Unit {0} × Unit {0}). lasts h.ended (κ, tt) (value, tt) ends)
+          (λ (u : MutBor Destructured). ‵ (follows V N value.ghost_name u.ghost_name node_value) ⊛ raw (fact 𝓤 (node_value u.now ≡ value.now)))
+          (λ v₂. id⊢ 𝓤 _) (λ v₂ u typed₂. lands_as ! refl refl typed₂.0 $ split ! $ move ! (1 ∷ []) $
           heard ! _ (λ same. let same' = ap (λ (w : WellFormed). w.tree) same in
-          -- [the formula of the value; its token; nothing; the value's content; the formula of the content; the text's token; nothing; the
-          -- text; the count]
-          move ! (3 ∷ []) $ peeks ! (MutRef (named 0) κ N) _ (shows 𝓛 (MutRef (named 0) κ N)) u (v₂ ∷ []) (λ told₂. let opened_at =
-          mut_Tells (named 0) κ N u (v₂ ∷ []) told₂ in
-          lands_as ! (ap only opened_at) refl (tt, tt) $
-          rewrite ! 0 (λ (us : List Val). ‵ ((MutRef (named 0) κ N).own_val u us)) opened_at refl $
+          -- [the formula of the value; the value's content; its token; the formula of the content; the text's token; nothing; the text; the
+          -- count]
           let G₃ = triple_of 𝓛 b.signature (b.spec 𝓛 𝓜.mem 𝓡.returns) in
           let z₃ : G₃.Ghost = (((κ', tt), (q', tt), tt, (p, tt), (ps, tt)), tt) in
-          move ! (7 ∷ []) $ nothing ! $ move ! (1 ∷ 0 ∷ []) $ join ! $ nothing ! $ move ! (7 ∷ 0 ∷ []) $ join ! $ join ! $
-          use0 𝓛 (raw (fact 𝓤 (1 < length ws))) (fact_i 𝓤 (1 < length ws) (emp 𝓤) (two_at_least m (length ws) above within)) $
-          move ! (1 ∷ 0 ∷ []) $
-          use2 𝓛 (raw (G₃.pre z₃)) (id⊢ 𝓤 _) $
-          calls_at ! (framed 𝓤 𝓛.H 𝓜 𝓣) G₃ (b-thm.met 𝓤 𝓛 𝓜 𝓡 (codes.calls-ijson_extra::pointer::lend::behind_first 𝓡.env wired)) z₃
-          (and_then ! (get ! refl) (no_more !)) (λ v₃.
-          use1 𝓛 (later (some (λ (left : Bor (List ℕ)). ((‵ (flft κ' q') ⊛ ‵ ftrue) ⊛ ‵ (S.own_val left (v₃ ∷ []))) ⊛
-          some (λ (ends : Unit {0} × Unit {0}). ‵ (lasts b.ended (κ', tt) (p, tt) ends)
-          ⊛ raw (fact 𝓤 (written_tokens left.now ≡ list_drop 1 ws)))))) (id⊢ 𝓤 _) $
-          await ! tt $ pick ! (λ left. split ! $ split ! $ split ! $ move ! (3 ∷ []) $
-          pick ! (λ ws₃. split ! $ drop ! $ heard ! _
+          move ! (6 ∷ 4 ∷ []) $ maps 𝓛 ! κ' q' (framed 𝓤 𝓛.H 𝓜 𝓣) G₃
+          (b-thm.met 𝓤 𝓛 𝓜 𝓡 (codes.calls-ijson_extra::pointer::lend::behind_first 𝓡.env wired)) z₃ S
+          (of_field (str-field at) (str-laws at) refl (copy_shared (str-field at) (str-copy at))) (S.own_val p ps)
+          (raw (fact 𝓤 (1 < length ws))) (fact_i 𝓤 (1 < length ws) (emp 𝓤) (two_at_least m (length ws) above within)) (id⊢ 𝓤 _)
+          (and_then ! (get ! refl) (no_more !)) (λ left (ends : Unit {0} × Unit {0}). lasts b.ended (κ', tt) (p, tt) ends)
+          (λ (left : Bor (List ℕ)). raw (fact 𝓤 (written_tokens left.now ≡ list_drop 1 ws))) (λ v₃. id⊢ 𝓤 _) (λ v₃ left typed₃. heard ! _
           (λ behind. let rest : m - 1 < length (written_tokens left.now) = one_fewer m ws (written_tokens left.now) above within behind in
-          -- [the text's token; nothing; the rest; the value's content; the formula of the value; its token; nothing; what the content
-          -- follows; nothing; the count]
-          move ! (2 ∷ []) $ peeks ! S _ (shows 𝓛 S) left (v₃ ∷ []) (λ told₃.
-          lands_as ! refl refl (((str-laws at).lawful 𝓛).typed left (v₃ ∷ []) told₃).0 $
+          -- [the rest; the text's token; the formula of the value; the value's content; its token; the formula of the content; nothing; the
+          -- count]
+          lands_as ! refl refl typed₃.0 $
           sets ! (bin ! (get ! refl) (lit ! tt) above) refl (tt, record { fits = less_one m above are.1.1.0.1 }) $
           let G₄ = triple_of 𝓛 f.signature (f.spec 𝓛 𝓜.mem 𝓡.returns) in
-          let z₄ : G₄.Ghost = ((κs, qs, y'.0.2, (u, (left, (m - 1, tt))), (mut_vals u, ((v₃ ∷ []), (uint_vals w64 (m - 1), tt)))), tt) in
+          let z₄ : G₄.Ghost = ((κs, qs, y'.0.2, (u, (left, (m - 1, tt))), ((v₂ ∷ []), ((v₃ ∷ []), (uint_vals w64 (m - 1), tt)))), tt) in
           use0 𝓛 (‵ (usize.own_val (m - 1) (uint_vals w64 (m - 1)))) (number_made 𝓛 (m - 1) (less_one m above are.1.1.0.1)) $
+          move ! (0 ∷ 1 ∷ 2 ∷ 7 ∷ 4 ∷ 3 ∷ 5 ∷ []) $
           -- [the count; the rest; the text's token; nothing; the value's content; the formula of the value; its token; ..]
           nothing ! $ move ! (1 ∷ 0 ∷ []) $ join ! $ move ! (1 ∷ 0 ∷ []) $ join ! $ move ! (3 ∷ 0 ∷ []) $ join ! $
           nothing ! $ move ! (2 ∷ 0 ∷ []) $ join ! $ move ! (4 ∷ 0 ∷ []) $ join ! $ join ! $
@@ -214,12 +203,12 @@ pub +walk_spec : {M : Type 1} → statement M
           ⊛ raw (fact 𝓤 (tree_lent o ≡ walked (steps_of left.now (m - 1)) (Some (node_tree u.now)))))))) (id⊢ 𝓤 _) $
           await ! tt $ pick ! (λ o. split ! $ split ! $ split ! $ move ! (1 ∷ []) $ split ! $ move ! (4 ∷ []) $
           pick ! (λ _. split ! $ drop ! $ split ! $ move ! (1 ∷ []) $ heard ! _ (λ deeper.
-          -- [the formula of the value's content; the text's token; nothing; its token; the result; nothing; the formula of the value;
-          -- nothing; the formula of the content; ..]
+          -- [the formula of the value's content; the text's token; nothing; its token; the result; nothing; the formula of the value; the
+          -- formula of the content; ..]
           move ! (4 ∷ []) $ peeks ! (OptionOf Lent) _ (shows 𝓛 (OptionOf Lent)) o (v₄ ∷ []) (λ told₄.
           lands_as ! refl refl (((value_found_laws κ).lawful 𝓛).typed o (v₄ ∷ []) told₄).0 $
           returns ! (look_at ! 0 refl) $ free_all ! refl $
-          move ! (8 ∷ 6 ∷ 1 ∷ []) $ use3 𝓛 (‵ (LendsWalked r p.now m o))
+          move ! (7 ∷ 6 ∷ 1 ∷ []) $ use3 𝓛 (‵ (LendsWalked r p.now m o))
           (step_on 𝓛 N V V N (O (Some value)) P₀ node_value
           (λ w n. OnSome o (node_tree n ≡ walked_with (steps_of left.now (m - 1)) (Some (node_tree u.now)) w.tree))
           (λ n. node_tree n ≡ node_tree u.now) (P o) P₀
@@ -233,6 +222,6 @@ pub +walk_spec : {M : Type 1} → statement M
           nothing ! $ nothing ! $ fjoin ! $ nothing ! $ fjoin ! $ nothing ! $ fjoin ! $ join ! $ nothing ! $ move ! (3 ∷ 0 ∷ []) $ join ! $
           move ! (2 ∷ 0 ∷ []) $ join ! $ join ! $ frame ! $
           says ! (further_found old p.now left.now m above behind value.now.tree found' (tree_lent o) (deeper
-          ∙ ap (λ (t : Tree). walked (steps_of left.now (m - 1)) (Some t)) same')) $ done !))))))))))))))))),
+          ∙ ap (λ (t : Tree). walked (steps_of left.now (m - 1)) (Some t)) same')) $ done !))))))))))),
       ((λ e. absurd (suc-ne-zero 0 e)), (λ n. absurd (n.0.1 refl))),
-    )))))))))))
+    )))))))))

@@ -14,7 +14,7 @@ use Rattle.ijson_value.specs.contracts.value.destructure.DestructuredMut.{the_ro
 use Rattle.ijson_value.proofs.value.destructure.DestructuredMut.TheLaws.{the_row_laws as parts_laws}
 use Rattle.ijson_value.specs.declared.value.destructure.DestructuredMut.{DestructuredMut}
 use Rattle.ijson_value.proofs.lends.Called.{back, lent}
-use Rattle.ijson_extra.proofs.lends.Mapped.{maps}
+use Rattle.ijson_extra.proofs.lends.Mapped.{maps, no_need}
 use Rattle.ijson_extra.proofs.test_lemmas.TurnedParts.{negated, parts_left}
 use Rattle.ijson_extra.specs.private.Turned.{IsTurned}
 use Rattle.ijson_extra.specs.contracts.tests.lent.turn_truth as f
@@ -49,7 +49,7 @@ turn_truth_spec 𝓤 𝓛 𝓜 𝓡 wired =
     let z : G.Ghost = (((β, tt), (full_share, tt), tt, (r', tt), (vs, tt)), tt) in
     move ! (0 ∷ 2 ∷ []) $ maps 𝓛 ! β full_share (framed 𝓤 𝓛.H 𝓜 𝓣) G
     (g-thm.met 𝓤 𝓛 𝓜 𝓡 (code.calls-ijson_value::value::IValue::destructure_mut 𝓡.env wired)) z (PartsOf at) (parts_laws at) (Ref β r')
-    (id⊢ 𝓤 _) (and_then ! (get ! refl) (no_more !)) (λ x (ws : Unit {0} × Unit {0}). lasts g.ended (β, tt) (r', tt) ws)
+    (‵ ftrue) (no_need 𝓛) (id⊢ 𝓤 _) (and_then ! (get ! refl) (no_more !)) (λ x (ws : Unit {0} × Unit {0}). lasts g.ended (β, tt) (r', tt) ws)
     (λ (x : DestructuredMut). ‵ (LendsParts r' x) ⊛ raw (fact 𝓤 (mut_value x ≡ r.now))) (λ v. id⊢ 𝓤 _) (λ v x typed.
     split ! $ move ! (1 ∷ []) $ heard ! _ (λ seen. lands_as ! refl refl typed.0 $
     -- [the formula of the loan; the parts; the token of α; what the lender keeps]
@@ -57,7 +57,7 @@ turn_truth_spec 𝓤 𝓛 𝓜 𝓡 wired =
     let z' : H.Ghost = (((β, tt), (full_share, tt), tt, (x, tt), ((v ∷ []), tt)), tt) in
     move ! (1 ∷ 2 ∷ []) $ maps 𝓛 ! β full_share (framed 𝓤 𝓛.H 𝓜 𝓣) H
     (h-thm.met 𝓤 𝓛 𝓜 𝓡 (code.calls-ijson_extra::tests::lent::turned_parts 𝓡.env wired)) z' (PartsOf at) (parts_laws at)
-    ((PartsOf at).own_val x (v ∷ [])) (id⊢ 𝓤 _) (and_then ! (get ! refl) (no_more !)) (λ o ws. lasts h.ended (β, tt) (x, tt) ws)
+    ((PartsOf at).own_val x (v ∷ [])) (‵ ftrue) (no_need 𝓛) (id⊢ 𝓤 _) (and_then ! (get ! refl) (no_more !)) (λ o ws. lasts h.ended (β, tt) (x, tt) ws)
     (λ o. raw (fact 𝓤 (IsTurned x o))) (λ w. id⊢ 𝓤 _) (λ w o typed. heard ! _ (λ is. lands_as ! refl refl typed.0 $
     -- [the parts; the token of α; the formula of the loan; what the lender keeps]
     move ! (0 ∷ 2 ∷ []) $
@@ -66,4 +66,4 @@ turn_truth_spec 𝓤 𝓛 𝓜 𝓡 wired =
     sets ! (of_opd ! (unit_lit !)) refl (tt, tt) $ returns ! (look_at ! 0 refl) $ free_all ! refl $ keep ! (0 ∷ 1 ∷ []) $
     suffices ! _ (ends_at 𝓛 f.ended stayed c y vunit tt (mut_value o, tt) (tt, tt)) $ says_two ! (negated x o is r.now seen) $
     nothing ! $ move ! (1 ∷ 0 ∷ []) $ join ! $ nothing ! $ move ! (2 ∷ 0 ∷ []) $ join ! $ frame ! $ frame ! $
-    feq_i ! _ (vunit ∷ []) _ refl $ done !))))))))
+    feq_i ! _ (vunit ∷ []) _ refl $ done !)))))))
