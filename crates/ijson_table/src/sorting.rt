@@ -2,7 +2,7 @@
 
 pub mod build;
 pub mod duplicates;
-pub mod first;
+pub mod earlier;
 pub mod merge_sort;
 pub mod order;
 pub mod second_hash;

@@ -1,5 +1,5 @@
 -- Indices of keys before and after insertions.
-use Rattle.std.proofs.Common.{◌≡◌, ◌≢◌, ℕ, zero, suc, ◌+◌, ◌<◌, ◌≤◌, inl, inr, arith, List, [], ◌∷◌, ◌++◌, length, get_or, Option, Some}
+use Rattle.std.proofs.Common.{◌≡◌, ◌≢◌, ℕ, suc, ◌+◌, ◌<◌, inl, inr, arith, List, [], ◌∷◌, ◌++◌, length, get_or, Option, Some}
 use Rattle.std.proofs.Common.{None, cond, true, false, refl, sym, ap, ◌∙◌, length-append}
 use Rattle.std.proofs.Math.ListN.{get_or-append}
 use Rattle.std.proofs.Math.Seq.{get_or-append_seam}
@@ -7,22 +7,9 @@ use Rattle.std.proofs.lemmas.List.{map-append}
 use Rattle.std.specs.Prelude.{bytes_eq, option_map}
 use Rattle.ijson_table.specs.Store.{at, keys_of, position_of, put, put_each}
 use Rattle.ijson_table.specs.laws.Store.{keys-with_value}
-use Rattle.ijson_table.proofs.pairs.KeyPositions.{absent-from, head_or_tail, position-first, same_key}
+use Rattle.ijson_table.proofs.pairs.KeyPositions.{absent-from, position-first, same_key}
 use Rattle.ijson_table.proofs.pairs.PairsByKey.{keys-length, put-absent, put-present}
 use Rattle.ijson_table.proofs.pairs.PutEach.{put_each-append}
-
--- the index of a key is the first at which it is
-pub position-least : (keys : List (List ℕ)) (key : List ℕ) (i : ℕ) → position_of keys key ≡ Some i → (j : ℕ) → j < length keys
-    → get_or keys j [] ≡ key → i ≤ j
-position-least [] key i e j lj same = absurd (omega arith)
-position-least (k ∷ ks) key i e zero lj same = elim (head_or_tail k ks key i e) [
-  | inl s ↦ omega (arith, s.2)
-  | inr d ↦ absurd (d.1 same)
-]
-position-least (k ∷ ks) key i e (suc j) lj same = elim (head_or_tail k ks key i e) [
-  | inl s ↦ omega (arith, s.2)
-  | inr d ↦ omega (arith, d.4, position-least ks key d.2 d.3 j (omega arith) same)
-]
 
 module _ {V : Type 0} where
   -- an insertion keeps the index of any other key

@@ -1,34 +1,36 @@
-//! Merging duplicate keys by the first indices of keys.
+//! Merging duplicate keys by earlier indices of them.
 
 ghost use Rattle.std.specs.Prelude.{◌≡◌, [], take};
 ghost use Rattle.ijson_table.specs.Store.{keys_of, put_each};
-ghost use Rattle.ijson_table.specs.private.KeyOrder.{AreFirsts};
+ghost use Rattle.ijson_table.specs.private.KeyOrder.{AreEarlier};
 
 use ijson_string::IString;
 
 /// Inserts the pairs in order within their list, and returns the number of keys. Replaced pairs are after them.
 ///
-/// A duplicate key keeps its index and has its last value. `firsts` has the first index of the key at each index, so no
-/// key is compared.
+/// A duplicate key keeps its index and has its last value. `earlier` has an earlier index of the same key at each index, or
+/// the index itself if there is none, so no key is compared.
 ///
 /// # Cost
 ///
 /// Linear in the number of pairs.
-pub fn merge_duplicates<V>(pairs: &mut [(IString, V)], firsts: Vec<usize>) -> usize
-    requires { AreFirsts (keys_of pairs.old) firsts.items }
+pub fn merge_duplicates<V>(pairs: &mut [(IString, V)], earlier: Vec<usize>) -> usize
+    requires { AreEarlier (keys_of pairs.old) earlier.items }
     ensures { take result pairs.new ≡ put_each [] pairs.old }
 {
-    // A first index is replaced by the index of its key among the inserted pairs.
-    let mut places = firsts;
+    // An earlier index is replaced by the index of the key among the inserted pairs.
+    let mut places = earlier;
     let mut kept = 0;
     for position in 0..pairs.len() {
-        let first = places[position];
+        let before = places[position];
         pairs.swap(kept, position);
-        if first == position {
+        if before == position {
             places[position] = kept;
             kept += 1;
         } else {
-            pairs.swap(places[first], kept);
+            let place = places[before];
+            places[position] = place;
+            pairs.swap(place, kept);
         }
     }
     kept

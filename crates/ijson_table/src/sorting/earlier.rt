@@ -1,8 +1,8 @@
-//! The first index of each key, by one pass over entries in the order of their keys.
+//! An earlier index of each duplicate key, by one pass over entries in the order of their keys.
 
 ghost use Rattle.std.specs.Prelude.{◌≡◌, ◌+◌, ◌<◌, ◌≤◌, ◌^◌, length, IfOk, OnErr, IsTrue, ◌↔◌};
 ghost use Rattle.ijson_table.specs.Store.{keys_of};
-ghost use Rattle.ijson_table.specs.private.KeyOrder.{entry_key, AreFirsts, AreInOrder};
+ghost use Rattle.ijson_table.specs.private.KeyOrder.{entry_key, AreEarlier, AreInOrder};
 
 use crate::slot::Slot;
 use crate::sorting::order::key_of;
@@ -10,12 +10,12 @@ use ijson_number::Looks;
 use ijson_string::IString;
 use std::alloc::{AllocError, Global};
 
-/// Returns, for each index of the pairs, the first index with the same key.
+/// Returns, for each index of the pairs, the previous index with the same key, or the index itself if there is none.
 ///
-/// `sorted` has the entries of all pairs in the order of `KeyOrder`: entries of one key are adjacent, the first index
-/// first. Each entry counts as one inspection, in which two keys are compared if their hashes are equal. An empty list
-/// does not allocate.
-pub fn first_positions<V>(
+/// `sorted` has the entries of all pairs in the order of `KeyOrder`: entries of one key are adjacent, by their indices.
+/// Each entry counts as one inspection, in which two keys are compared if their hashes are equal. An empty list does not
+/// allocate.
+pub fn earlier_positions<V>(
     alloc: Global,
     sorted: &[Slot],
     pairs: &[(IString, V)],
@@ -23,7 +23,7 @@ pub fn first_positions<V>(
 ) -> Result<Vec<usize>, AllocError>
     requires entries { AreInOrder (keys_of pairs.now) sorted.now }
     requires fits { looks.old + length pairs.now < 2 ^ 128 }
-    ensures firsts { IfOk result (λ firsts. AreFirsts (keys_of pairs.now) firsts.items) }
+    ensures earlier { IfOk result (λ earlier. AreEarlier (keys_of pairs.now) earlier.items) }
     ensures grows { looks.old ≤ looks.new }
     ensures bounded { looks.new ≤ looks.old + length pairs.now }
     ensures refused { OnErr result (0 < length pairs.now) }
@@ -31,17 +31,18 @@ pub fn first_positions<V>(
     if sorted.is_empty() {
         return Ok(Vec::new(alloc));
     }
-    let mut firsts = vec![in alloc; 0; pairs.len()]?;
-    // The entry with the first index of the current key.
-    let mut run = sorted[0];
+    let mut earlier = vec![in alloc; 0; pairs.len()]?;
+    // The previous entry, or this one if their keys differ.
+    let mut last = sorted[0];
     for entry in sorted {
         looks.add_one();
-        if !has_same_key(pairs, run, *entry) {
-            run = *entry;
+        if !has_same_key(pairs, last, *entry) {
+            last = *entry;
         }
-        firsts[entry.resident()] = run.resident();
+        earlier[entry.resident()] = last.resident();
+        last = *entry;
     }
-    Ok(firsts)
+    Ok(earlier)
 }
 
 /// Returns whether two entries have the same key and the same hash.

@@ -1,40 +1,38 @@
-use Rattle.std.proofs.Common.{◌≡◌, ◌≢◌, ◌<◌, ℕ, length, get_or, Option, Some, None, arith, sym, ap, ◌∙◌, ◌+◌, ◌^◌, ◌≤◌}
-use Rattle.std.proofs.lemmas.Bool.Decides.{nat_tests}
+use Rattle.std.proofs.Common.{◌≡◌, refl, ◌≢◌, ◌<◌, ◌-◌, ℕ, length, get_or, None, arith, sym, ap, ◌∙◌, ◌+◌, ◌^◌, ◌≤◌}
 use Rattle.std.proofs.lemmas.Result.{IfOk-from_err}
 use borrow.Author.Rules.{scaled_Fits}
 use Rattle.ijson_table.specs.Store.{keys_of}
+use Rattle.ijson_table.specs.private.KeyOrder.{IsEarlier}
 use Rattle.ijson_table.specs.private.SlotHashes.{blank, position_in}
-use Rattle.ijson_table.proofs.firsts.KeyRuns.{all_told, each_stands, is_position, new_run, run_begins, same_run}
+use Rattle.ijson_table.proofs.firsts.KeyRuns.{all_told, each_stands, goes_on, is_position, other_key, same_key}
 use Rattle.ijson_table.proofs.pairs.PairsByKey.{keys-length}
-use Rattle.ijson_table.proofs.sorting.first.first_positions.Given.{Over}
-use Rattle.ijson_table.proofs.sorting.first.first_positions.Goals as goal
-use Rattle.ijson_table.proofs.sorting.first.first_positions.Goals.{then-not-has_same_key, else-not-has_same_key, Start}
+use Rattle.ijson_table.proofs.sorting.earlier.earlier_positions.Given.{Over}
+use Rattle.ijson_table.proofs.sorting.earlier.earlier_positions.Goals as goal
+use Rattle.ijson_table.proofs.sorting.earlier.earlier_positions.Goals.{then-not-has_same_key, else-not-has_same_key, Start}
 
 -- each entry has an index
 stands : (g : Over) (c : Start g) (k : ℕ) → k < length c.args.sorted.now → position_in (get_or c.args.sorted.now k blank) ≢ None
 stands g c = each_stands (keys_of c.args.pairs.now) c.args.sorted.now c.requires.entries
 
 pub loop-entry-init : goal.loop-entry-init
-loop-entry-init g c =
-    let keys = keys_of c.args.pairs.now in
-    let sorted = c.args.sorted.now in
-    let is_some = c.if-is_empty.ensures in
-    record {
-      run = run_begins keys sorted c.requires.entries c.in_ok-firsts.firsts.items
-          (omega (arith, c.in_ok-firsts.ensures.len, c.in_ok-firsts.firsts.ok.0, keys-length c.args.pairs.now))
-          (grind (arith, nat_tests));
-      looked = omega arith;
-    }
+loop-entry-init g c = record {
+  so_far = record {
+    count = omega (arith, c.in_ok-earlier.ensures.len, c.in_ok-earlier.earlier.ok.0, keys-length c.args.pairs.now);
+    last_is = refl;
+    told = λ j p lj at. absurd (omega arith);
+  };
+  looked = omega arith;
+}
 
 pub resident-requires : goal.resident-requires
-resident-requires g c = elim c.if-not-has_same_key.branch [
-  | then-not-has_same_key w ↦ λ none.
-      stands g (goal.at.resident-requires g c).Start c.loop-entry.entry-index c.loop-entry-test.true
-      (sym (ap position_in w.run-is) ∙ none)
-  | else-not-has_same_key w ↦ λ none.
-      let leads = c.loop-entry.invariant.run.leads in
-      let bad : ◌≡◌ {A = Option ℕ} (Some leads.0) None = sym leads.1.stands ∙ (sym (ap position_in w.run-is) ∙ none) in cc
-]
+resident-requires g c =
+    let place = (goal.at.resident-requires g c).Start in
+    elim c.if-not-has_same_key.branch [
+      | then-not-has_same_key w ↦ λ none. stands g place c.loop-entry.entry-index c.loop-entry-test.true
+          (sym (ap position_in w.last-is) ∙ none)
+      | else-not-has_same_key w ↦ λ none. stands g place (c.loop-entry.entry-index - 1) (omega (arith, c.loop-entry-test.true))
+          (sym (ap position_in (w.last-is ∙ c.loop-entry.invariant.so_far.last_is)) ∙ none)
+    ]
 
 pub resident-requires-in-loop-entry : goal.resident-requires-in-loop-entry
 resident-requires-in-loop-entry g c =
@@ -46,8 +44,8 @@ index_mut-requires g c =
       arith,
       is_position (keys_of c.args.pairs.now) c.args.sorted.now c.requires.entries
           c.loop-entry.entry-index c.resident-in-loop-entry.result c.loop-entry-test.true c.resident-in-loop-entry.ensures,
-      c.loop-entry.invariant.run.count,
-      c.loop-entry.firsts.ok.0,
+      c.loop-entry.invariant.so_far.count,
+      c.loop-entry.earlier.ok.0,
     )
 
 pub loop-entry-preserved : goal.loop-entry-preserved
@@ -57,30 +55,31 @@ loop-entry-preserved g c =
     let k : ℕ = c.loop-entry.entry-index in
     let p : ℕ = c.resident-in-loop-entry.result in
     let q : ℕ = c.resident.result in
-    let run = c.loop-entry.run in
-    let next = c.if-not-has_same_key.run in
-    let firsts = c.loop-entry.firsts.items in
+    let last = c.loop-entry.last in
+    let next = c.if-not-has_same_key.last in
+    let so_far = c.loop-entry.invariant.so_far in
     let s = c.requires.entries in
+    let is : IsEarlier keys p q = elim c.if-not-has_same_key.branch [
+      | then-not-has_same_key w ↦
+          other_key keys sorted s k p q last next c.loop-entry-test.true so_far.last_is
+          c.resident-in-loop-entry.ensures w.last-is c.resident.ensures (λ both.
+          let yes_it_is = c.has_same_key.ensures.1 both in
+          let no_it_is = w.if-not-has_same_key.true in
+          cc (yes_it_is, no_it_is))
+      | else-not-has_same_key w ↦
+          same_key keys sorted s k p q last next c.loop-entry-test.true so_far.last_is
+          c.resident-in-loop-entry.ensures w.last-is c.resident.ensures (c.has_same_key.ensures.0 w.if-not-has_same_key.false)
+    ] in
     record {
-      run = elim c.if-not-has_same_key.branch [
-        | then-not-has_same_key w ↦
-            new_run keys sorted s k p q run next firsts c.loop-entry-test.true c.loop-entry.invariant.run
-            c.resident-in-loop-entry.ensures w.run-is c.resident.ensures (λ both.
-            let yes_it_is = c.has_same_key.ensures.1 both in
-            let no_it_is = w.if-not-has_same_key.true in
-            cc (yes_it_is, no_it_is))
-        | else-not-has_same_key w ↦
-            same_run keys sorted s k p q run next firsts c.loop-entry-test.true c.loop-entry.invariant.run
-            c.resident-in-loop-entry.ensures w.run-is c.resident.ensures
-            (c.has_same_key.ensures.0 w.if-not-has_same_key.false).1
-      ];
+      so_far = goes_on keys sorted s k p q last c.loop-entry.earlier.items c.loop-entry-test.true so_far
+          c.resident-in-loop-entry.ensures is;
       looked = omega (arith, c.add_one.ensures, c.loop-entry.invariant.looked);
     }
 
-pub returns-clause-firsts : goal.returns-clause-firsts
-returns-clause-firsts g c =
+pub returns-clause-earlier : goal.returns-clause-earlier
+returns-clause-earlier g c =
     all_told (keys_of c.args.pairs.now) c.args.sorted.now c.requires.entries
-    c.loop-entry.entry-index c.loop-entry.run c.loop-entry.firsts.items c.loop-entry-test.false c.loop-entry.invariant.run
+    c.loop-entry.entry-index c.loop-entry.last c.loop-entry.earlier.items c.loop-entry-test.false c.loop-entry.invariant.so_far
 
 -- one more inspection can be counted,
 one_more : (old index sorted keys pairs looks : ℕ) → looks ≡ old + index → index < sorted → sorted ≡ keys → keys ≡ pairs
@@ -104,5 +103,5 @@ pub returns-clause-bounded : goal.returns-clause-bounded
 returns-clause-bounded g c = in_all c.args.looks.now c.loop-entry.entry-index _ _ _ c.loop-entry.looks c.loop-entry.invariant.looked
     c.loop-entry.auto.entry-index-end c.requires.entries.count (keys-length c.args.pairs.now)
 
-pub returns-in_err-firsts-clause-firsts : goal.returns-in_err-firsts-clause-firsts
-returns-in_err-firsts-clause-firsts g c = IfOk-from_err c.from_residual.result _ c.from_residual.ensures.0
+pub returns-in_err-earlier-clause-earlier : goal.returns-in_err-earlier-clause-earlier
+returns-in_err-earlier-clause-earlier g c = IfOk-from_err c.from_residual.result _ c.from_residual.ensures.0
