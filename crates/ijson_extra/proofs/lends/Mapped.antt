@@ -4,18 +4,30 @@ use seplogic.Ra.Ura.{Ura}
 use base.Fml.{Fml, Lft, Share, ftrue, flft}
 use base.Logic.{ent, sep, emp}
 use denote.Laws.{Typed, shows}
-use denote.Param.Laws.{Laws}
+use mathlib.Core.Path.{refl}
+use denote.Param.Laws.{Laws, of_field, row_shared}
+use denote.Param.Shared.{mut_ref_shared}
+use denote.Ref.{MutRef, NamedLft}
 use denote.RattleType.{RattleType}
 use denote.Steps.{nothing, peeks}
+use denote.Struct.Field.{mut_ref_field}
+use denote.Struct.Laws.{mut_ref_laws}
 use denote.Triple.Call.{calls_at}
 use denote.Triple.Statement.{Contract, Triple}
-use mir.Syntax.{Body, Callee, Opd as Operand, Place, seq, call}
+use mir.Syntax.{named, Body, Callee, Opd as Operand, Place, seq, call}
 use mir.Val.{Val}
 use prog.Wp.{Env, Calls, Loops}
 use sound.WpLaws.{FmC}
 use types.Kit.{Item, Post, Seq, mean, runs, lands, ‵, raw, ◌⊛◌, some, later, ◌$◌, ◌∵◌, !, qed, done, move, drop, split, join, use0, use1, use2, pick, await}
 use types.Logic.{Logic}
 use types.Run.{Opds}
+use Rattle.ijson_value.specs.contracts.value.Destructured.{the_row as N}
+use Rattle.ijson_value.proofs.value.Destructured.TheLaws.{the_row_laws as node_laws}
+
+-- the laws of a reference to the content of a value
+abbrev pub opened_laws : (κ : Lft) → Laws (MutRef (named 0) κ N)
+opened_laws κ = let a : NamedLft = record { mir = named 0; lft = κ } in
+    of_field (mut_ref_field a N tt) (mut_ref_laws a N tt) refl (mut_ref_shared a N tt (row_shared N node_laws))
 
 -- for a call that requires nothing
 pub no_need : {M : Type 1} {𝓤 : Ura M} (𝓛 : Logic 𝓤) → ent 𝓤 (emp 𝓤) (mean 𝓛 (‵ ftrue))

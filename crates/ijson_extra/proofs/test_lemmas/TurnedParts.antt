@@ -63,20 +63,20 @@ module _ {M : Type 1} {𝓤 : Ura M} (𝓛 : Logic 𝓤) (at : NamedLft) (r : Mu
 
     part_left : (a b : MutBor T.Denot) (vs : List Val) → a ≡ b → Leaves a b vs
     part_left a b vs is = subst (λ (z : MutBor T.Denot). Leaves a z vs) is (
-      qed 𝓛 (‵ (Tagged n (MutRef at.mir at.lft T ∷ []) (a, tt) vs) ∷ ‵ (follows V T r.ghost_name a.ghost_name F) ∷ []) ∵
-      alone_out ! n (MutRef at.mir at.lft T) a vs (λ us led. fsplit3 ! $ keep ! (1 ∷ 3 ∷ []) $
-      use1 𝓛 (‵ (fres a.ghost_name (T.coded.code a.now))) (𝓛.names.obs-res a.ghost_name (T.coded.code a.now)) $ move ! (1 ∷ []) $
-      use2 𝓛 (‵ (fres r.ghost_name (V.coded.code (F a.now)))) (followed 𝓛 V T F r.ghost_name a.ghost_name a.now) $ done !)
-    )
+        qed 𝓛 (‵ (Tagged n (MutRef at.mir at.lft T ∷ []) (a, tt) vs) ∷ ‵ (follows V T r.ghost_name a.ghost_name F) ∷ []) ∵
+        alone_out ! n (MutRef at.mir at.lft T) a vs (λ us led. fsplit3 ! $ keep ! (1 ∷ 3 ∷ []) $
+        use1 𝓛 (‵ (fres a.ghost_name (T.coded.code a.now))) (𝓛.names.obs-res a.ghost_name (T.coded.code a.now)) $ move ! (1 ∷ []) $
+        use2 𝓛 (‵ (fres r.ghost_name (V.coded.code (F a.now)))) (followed 𝓛 V T F r.ghost_name a.ghost_name a.now) $ done !)
+        )
 
   -- the lender's last value
   pub parts_left : (x y : DestructuredMut) (vs : List Val) → IsTurned x y → mut_value x ≡ r.now
       → ent 𝓤 (sep 𝓤 (sem 𝓛 ((PartsOf at).own_val y vs)) (sem 𝓛 (LendsParts r x))) (sem 𝓛 (fres r.ghost_name (V.coded.code (mut_value y))))
   parts_left parts.Null parts.Null vs is e = subst (λ (w : WellFormed). ent 𝓤 (sep 𝓤 (sem 𝓛 ((PartsOf at).own_val parts.Null vs))
       (sem 𝓛 (LendsParts r parts.Null))) (sem 𝓛 (fres r.ghost_name (V.coded.code w)))) (sym e) (
-    qed 𝓛 (‵ ((PartsOf at).own_val parts.Null vs) ∷ ‵ (LendsParts r parts.Null) ∷ []) ∵ drop ! $
-    use1 𝓛 (‵ (fres r.ghost_name (V.coded.code r.now))) (if_none 𝓛 V V (λ w. w) r.now r.ghost_name) $ done !
-  )
+      qed 𝓛 (‵ ((PartsOf at).own_val parts.Null vs) ∷ ‵ (LendsParts r parts.Null) ∷ []) ∵ drop ! $
+      use1 𝓛 (‵ (fres r.ghost_name (V.coded.code r.now))) (if_none 𝓛 V V (λ w. w) r.now r.ghost_name) $ done !
+      )
   parts_left (parts.Bool a) (parts.Bool b) vs is e =
       qed 𝓛 (‵ ((PartsOf at).own_val (parts.Bool b) vs) ∷ ‵ (LendsParts r (parts.Bool a)) ∷ []) ∵
       alone_out ! 1 (BoolRow at) b vs (λ us led. fpick ! (λ vss. fsplit ! $ feq_l ! (λ e. fsplit ! $ fsplit3 ! $ keep ! (1 ∷ 4 ∷ []) $

@@ -41,9 +41,8 @@ use Rattle.ijson_value.proofs.lends.LentOn.{then_such, so_none, none_so}
 use Rattle.ijson_value.proofs.lends.Variants.{by_option, none_out, Some-out}
 use Rattle.ijson_value.specs.contracts.value.IValue.{the_row as V}
 use Rattle.ijson_value.specs.contracts.value.Destructured.{the_row as N}
-use Rattle.ijson_value.proofs.value.Destructured.TheLaws.{the_row_laws as N-laws}
-use Rattle.ijson_value.proofs.lends.Steps.{Laws, of_field, row_shared, mut_ref_field, mut_ref_laws, mut_ref_shared}
-use Rattle.ijson_extra.proofs.lends.Mapped.{finds, maps, no_need}
+use Rattle.ijson_value.proofs.lends.Steps.{of_field}
+use Rattle.ijson_extra.proofs.lends.Mapped.{finds, maps, no_need, opened_laws}
 use Rattle.ijson_value.specs.declared.value.Destructured.{Destructured}
 use Rattle.ijson_extra.proofs.pointer.lend.+walk.{statement}
 use Rattle.ijson_extra.proofs.pointer.lend.+walk.Code as codes
@@ -82,9 +81,7 @@ pub +walk_spec : {M : Type 1} → statement M
     let m : ℕ = a.1.1.0 in
     let vs = mut_vals r in let ps : List Val = shr_slice_vals p in let ms = uint_vals w64 m in let γ = r.ghost_name in
     let S : RattleType = Str (named 1) κ' in let at : NamedLft = record { mir = named 1; lft = κ' } in
-    let Lent : RattleType = MutRef (named 0) κ V in let here : NamedLft = record { mir = named 0; lft = κ } in
-    let Node : RattleType = MutRef (named 0) κ N in
-    let node_laws : Laws Node = of_field (mut_ref_field here N tt) (mut_ref_laws here N tt) refl (mut_ref_shared here N tt (row_shared N N-laws)) in
+    let Lent : RattleType = MutRef (named 0) κ V in
     let old : Tree = node_tree r.now in let ws = written_tokens p.now in
     let O = λ (x : Found) (w : WellFormed) (n : Destructured). OnSome x (node_tree n ≡ walked_with (steps_of p.now 0) (Some old) w.tree) in
     let P = λ (x : Found) (w : WellFormed) (n : Destructured). OnSome x (node_tree n ≡ walked_with (steps_of p.now m) (Some old) w.tree) in
@@ -164,7 +161,7 @@ pub +walk_spec : {M : Type 1} → statement M
           let G₂ = triple_of 𝓛 h.signature (h.spec 𝓛 𝓜.mem 𝓡.returns) in
           let z₂ : G₂.Ghost = (((κ, tt), (q, tt), tt, (value, tt), (mut_vals value, tt)), tt) in
           move ! (0 ∷ 4 ∷ []) $ maps 𝓛 ! κ q (framed 𝓤 𝓛.H 𝓜 𝓣) G₂
-          (h-thm.met 𝓤 𝓛 𝓜 𝓡 (codes.calls-ijson_extra::pointer::lend::opened 𝓡.env wired)) z₂ Node node_laws
+          (h-thm.met 𝓤 𝓛 𝓜 𝓡 (codes.calls-ijson_extra::pointer::lend::opened 𝓡.env wired)) z₂ (MutRef (named 0) κ N) (opened_laws κ)
           (Lent.own_val value (mut_vals value)) (‵ ftrue) (no_need 𝓛) (id⊢ 𝓤 _) (and_then ! (get ! refl) (no_more !))
           (λ u (ends : Unit {0} × Unit {0}). lasts h.ended (κ, tt) (value, tt) ends)
           (λ (u : MutBor Destructured). ‵ (follows V N value.ghost_name u.ghost_name node_value) ⊛ raw (fact 𝓤 (node_value u.now ≡ value.now)))

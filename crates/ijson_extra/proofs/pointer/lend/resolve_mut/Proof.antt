@@ -34,6 +34,7 @@ use Rattle.ijson_value.specs.declared.value.Destructured.{Destructured}
 use Rattle.ijson_value.proofs.lends.LentOn.{then_such, itself_so, none_so}
 use Rattle.ijson_value.proofs.lends.Variants.{and_tt, by_option, none_out, Some-out, variant_made}
 use Rattle.ijson_value.proofs.lends.LentLaws.{value_found_laws}
+use Rattle.ijson_extra.proofs.lends.Mapped.{maps, no_need, opened_laws}
 use Rattle.ijson_extra.specs.LendsNamedValue.{LendsNamedValue, IfLent}
 use Rattle.ijson_extra.specs.Pointer.{resolved, resolved_with}
 use Rattle.ijson_extra.specs.private.Walked.{HasTokens, LendsNamedInside, node_tree, tree_lent}
@@ -177,23 +178,16 @@ resolve_mut_spec 𝓤 𝓛 𝓜 𝓡 wired =
           sets ! (addr ! (through ! refl (stop !))) refl (tt, tt) $
           let G₃ = triple_of 𝓛 g.signature (g.spec 𝓛 𝓜.mem 𝓡.returns) in
           let z₃ : G₃.Ghost = (((κ, tt), (q, tt), tt, (r, tt), (vs, tt)), tt) in
-          move ! (4 ∷ 5 ∷ []) $ nothing ! $ move ! (1 ∷ 0 ∷ []) $ join ! $ nothing ! $ move ! (2 ∷ 0 ∷ []) $ join ! $ join ! $ nothing ! $
-          move ! (1 ∷ 0 ∷ []) $
-          use2 𝓛 (raw (G₃.pre z₃)) (id⊢ 𝓤 _) $
-          calls_at ! (framed 𝓤 𝓛.H 𝓜 𝓣) G₃ (g-thm.met 𝓤 𝓛 𝓜 𝓡 (code.calls-ijson_extra::pointer::lend::opened 𝓡.env wired)) z₃
-          (and_then ! (get ! refl) (no_more !)) (λ x.
-          use1 𝓛 (later (some (λ (u : MutBor Destructured). ((‵ (flft κ q) ⊛ ‵ ftrue) ⊛ ‵ ((MutRef (named 0) κ N).own_val u (x ∷ []))) ⊛
-          some (λ (ws : Unit {0} × Unit {0}). ‵ (lasts g.ended (κ, tt) (r, tt) ws) ⊛ ‵ (follows V N r.ghost_name u.ghost_name node_value)
-          ⊛ raw (fact 𝓤 (node_value u.now ≡ r.now)))))) (id⊢ 𝓤 _) $
-          await ! tt $ pick ! (λ u. split ! $ split ! $ split ! $ move ! (3 ∷ []) $
-          pick ! (λ ws₃. split ! $ drop ! $ split ! $ move ! (1 ∷ []) $ heard ! _ (λ e.
-          move ! (3 ∷ []) $ peeks ! (MutRef (named 0) κ N) _ (shows 𝓛 (MutRef (named 0) κ N)) u (x ∷ []) (λ told. let opened_at =
-          mut_Tells (named 0) κ N u (x ∷ []) told in
-          lands_as ! (ap only opened_at) refl (tt, tt) $
-          rewrite ! 0 (λ (us : List Val). ‵ ((MutRef (named 0) κ N).own_val u us)) opened_at refl $
+          move ! (4 ∷ 5 ∷ []) $ maps 𝓛 ! κ q (framed 𝓤 𝓛.H 𝓜 𝓣) G₃
+          (g-thm.met 𝓤 𝓛 𝓜 𝓡 (code.calls-ijson_extra::pointer::lend::opened 𝓡.env wired)) z₃ (MutRef (named 0) κ N) (opened_laws κ)
+          (Lent.own_val r vs) (‵ ftrue) (no_need 𝓛) (id⊢ 𝓤 _) (and_then ! (get ! refl) (no_more !))
+          (λ u (ws : Unit {0} × Unit {0}). lasts g.ended (κ, tt) (r, tt) ws)
+          (λ (u : MutBor Destructured). ‵ (follows V N r.ghost_name u.ghost_name node_value) ⊛ raw (fact 𝓤 (node_value u.now ≡ r.now)))
+          (λ x. id⊢ 𝓤 _) (λ x u typed. lands_as ! refl refl typed.0 $ split ! $ move ! (1 ∷ []) $ heard ! _ (λ e.
+          nothing ! $ move ! (2 ∷ 1 ∷ 3 ∷ 0 ∷ []) $
           -- [the content; the formula of value; its token; nothing; the count; the text's token; nothing; the text]
           let G₄ = triple_of 𝓛 h.signature (h.spec 𝓛 𝓜.mem 𝓡.returns) in
-          let z₄ : G₄.Ghost = ((κs, qs, tt, (u, (p, (more, tt))), (mut_vals u, (ps, (uint_vals w64 more, tt)))), tt) in
+          let z₄ : G₄.Ghost = ((κs, qs, tt, (u, (p, (more, tt))), ((x ∷ []), (ps, (uint_vals w64 more, tt)))), tt) in
           move ! (4 ∷ 3 ∷ []) $ join ! $ move ! (6 ∷ 0 ∷ []) $ join ! $ move ! (1 ∷ 0 ∷ []) $ join ! $ move ! (3 ∷ 4 ∷ []) $ join ! $
           move ! (3 ∷ 0 ∷ []) $ join ! $ join ! $
           use0 𝓛 (raw (fact 𝓤 (HasTokens p.now more)))
@@ -227,6 +221,6 @@ resolve_mut_spec 𝓤 𝓛 𝓜 𝓡 wired =
           keep ! (1 ∷ 4 ∷ 2 ∷ 0 ∷ []) $
           suffices ! _ (ends_at 𝓛 f.ended stayed c y (live 0 (of_list (w ∷ []))) (Ok o) (tt, (tt, tt)) (tt, (tt, tt))) $
           nothing ! $ nothing ! $ fjoin ! $ nothing ! $ fjoin ! $ join ! $ nothing ! $ move ! (3 ∷ 0 ∷ []) $ join ! $ move ! (2 ∷ 0 ∷ []) $
-          join ! $ join ! $ frame ! $ says_two ! (is ∙ ap (λ x'. resolved x' p.now) same, tt) $ done !))))))))))),
+          join ! $ join ! $ frame ! $ says_two ! (is ∙ ap (λ x'. resolved x' p.now) same, tt) $ done !)))))))),
       ((λ e. absurd (suc-ne-zero 0 e)), (λ n. absurd (n.0.1 refl))),
     )))))))))))))))))
