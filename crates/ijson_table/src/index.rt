@@ -11,7 +11,7 @@
 //! - `fill`: filling a table from entries sorted by home slot.
 
 ghost use Rattle.std.specs.Prelude.{◌≡◌, ℕ, ◌+◌, ◌-◌, ◌%◌, ◌^◌, ◌<◌, ◌≤◌, [], ◌∷◌, ◌++◌, length, get_or, set, None, IfOk, OnErr};
-ghost use Rattle.std.specs.List.{remove, swap_remove as swapped_out};
+ghost use Rattle.std.specs.List.{swap_remove as swapped_out};
 ghost use Rattle.ijson_table.specs.Crowd.{distance};
 ghost use Rattle.ijson_table.specs.Slots.{displacement, resident, IsTable};
 ghost use Rattle.ijson_table.specs.Store.{keys_of};
@@ -32,7 +32,7 @@ mod shift;
 mod slots;
 
 use crate::index::probe::{Lookup, Probed, probe};
-use crate::index::shift::{rehash_one, shift_remove, swap_remove};
+use crate::index::shift::{rehash_one, swap_remove};
 use crate::index::slots::Slots;
 use crate::slot::{Modulus, Slot};
 use ijson_number::Looks;
@@ -186,17 +186,6 @@ impl Index {
         ensures count { length self.new.slots ≡ length self.old.slots }
     {
         swap_remove(&mut self.slots, position, hash, last, last_hash);
-    }
-
-    /// Removes index `position`, whose key has this hash, and decrements each later index.
-    pub fn shift_remove(&mut self, position: usize, hash: u64, last: usize)
-        requires within { position ≤ last }
-        requires last { last + 1 ≡ length self.old.hashes }
-        requires hash { hash ≡ get_or self.old.hashes position 0 }
-        ensures hashes { self.new.hashes ≡ remove self.old.hashes position }
-        ensures count { length self.new.slots ≡ length self.old.slots }
-    {
-        shift_remove(&mut self.slots, position, hash, last);
     }
 
     /// Gives index `position`, whose key has the hash `was`, another hash.

@@ -6,7 +6,6 @@ ghost use Rattle.ijson_table.specs.Growth.{capacity_limit};
 ghost use Rattle.ijson_table.specs.Slots.{times, IsOrdered};
 ghost use Rattle.ijson_table.specs.Store.{keys_of};
 ghost use Rattle.ijson_table.specs.private.HomeOrder.{behind, home_before, home_in, AreInHomeOrder, CanBePlaced};
-ghost use Rattle.ijson_table.specs.private.Insertion.{IsTableOf};
 ghost use Rattle.ijson_table.specs.private.KeptHash.{kept, kept_hash};
 ghost use Rattle.ijson_table.specs.private.Narrow.{Fits};
 ghost use Rattle.ijson_table.specs.private.Probe.{onward};
@@ -31,7 +30,7 @@ impl Index {
     /// # Cost
     ///
     /// Linear in the number of entries, whatever their home slots.
-    pub fn fill(&mut self, sorted: &[Slot])
+    fn fill(&mut self, sorted: &[Slot])
         ghost hashes: { List ℕ }
         requires empty { self.old.hashes ≡ [] }
         requires room { length hashes ≤ length self.old.slots }
@@ -40,27 +39,14 @@ impl Index {
         ensures hashes { self.new.hashes ≡ hashes }
         ensures count { length self.new.slots ≡ length self.old.slots }
     {
-        fill(&mut self.slots, sorted);
+        if sorted.is_empty() {
+            return;
+        }
+        let modulus = Modulus::new(self.slots.len());
+        let start = first_in_row(sorted, modulus);
+        let first = modulus.home_of_hash(sorted[start].hash());
+        place_sorted(&mut self.slots, sorted, modulus, start, first);
     }
-}
-
-/// Fills empty slots, enough for all entries, from entries sorted by home slot.
-fn fill(slots: &mut Slots, sorted: &[Slot])
-    ghost hashes: { List ℕ }
-    requires empty { All (λ slot. position_in slot ≡ None) slots.old }
-    requires room { length hashes ≤ length slots.old }
-    requires entries { AreInHomeOrder hashes (length slots.old) sorted.now }
-    requires narrow { All (Fits (length slots.old)) sorted.now }
-    ensures table { IsTableOf hashes slots.new }
-    ensures count { length slots.new ≡ length slots.old }
-{
-    if sorted.is_empty() {
-        return;
-    }
-    let modulus = Modulus::new(slots.len());
-    let start = first_in_row(sorted, modulus);
-    let first = modulus.home_of_hash(sorted[start].hash());
-    place_sorted(slots, sorted, modulus, start, first);
 }
 
 /// Returns the index in `sorted` of the entry to write first.

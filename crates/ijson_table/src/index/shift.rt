@@ -10,6 +10,7 @@ ghost use Rattle.ijson_table.specs.private.SlotHashes.{displacement_in, position
 ghost use Rattle.ijson_table.specs.private.Probe.{IsVacancy};
 ghost use Rattle.std.specs.List.{remove, swap_remove as swapped_out};
 
+use crate::index::Index;
 use crate::index::probe::{ProbeTarget, Probed, next_slot, probe};
 use crate::index::slots::Slots;
 use crate::slot::{Modulus, Seen, Slot};
@@ -172,19 +173,18 @@ fn close_up(slots: &mut Slots, gone: usize)
     }
 }
 
-/// Removes index `position` and decrements each later index, up to `last`.
-pub fn shift_remove(slots: &mut Slots, position: usize, hash: u64, last: usize)
-    ghost hashes: { List ℕ }
-    requires table { IsTableOf hashes slots.old }
-    requires within { position ≤ last }
-    requires last { last + 1 ≡ length hashes }
-    requires fits { last + 1 < 2 ^ 64 }
-    requires hash { hash ≡ get_or hashes position 0 }
-    ensures table { IsTableOf (remove hashes position) slots.new }
-    ensures count { length slots.new ≡ length slots.old }
-{
-    take_out(slots, position, hash);
-    if position < last {
-        close_up(slots, position);
+impl Index {
+    /// Removes index `position`, whose key has this hash, and decrements each later index.
+    pub fn shift_remove(&mut self, position: usize, hash: u64, last: usize)
+        requires within { position ≤ last }
+        requires last { last + 1 ≡ length self.old.hashes }
+        requires hash { hash ≡ get_or self.old.hashes position 0 }
+        ensures hashes { self.new.hashes ≡ remove self.old.hashes position }
+        ensures count { length self.new.slots ≡ length self.old.slots }
+    {
+        take_out(&mut self.slots, position, hash);
+        if position < last {
+            close_up(&mut self.slots, position);
+        }
     }
 }

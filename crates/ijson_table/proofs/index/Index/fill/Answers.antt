@@ -1,35 +1,69 @@
-use Rattle.std.proofs.Common.{◌≡◌, List, [], length, arith, ap, sym, ◌∙◌, subst}
+use Rattle.std.proofs.Common.{◌≡◌, ◌%◌, ◌+◌, ◌<◌, ◌≤◌, ℕ, List, length, get_or, arith, ap, sym, ◌∙◌, subst}
 use Rattle.std.specs.List.{All}
+use Rattle.std.proofs.lemmas.Bool.Decides.{nat_tests}
+use Rattle.std.proofs.lemmas.List.{nil_from_length}
 use Rattle.ijson_table.specs.declared.slot.Slot.{Slot}
 use Rattle.ijson_table.specs.private.HashIndex.{HashIndex}
-use Rattle.ijson_table.specs.private.HomeOrder.{AreInHomeOrder}
+use Rattle.ijson_table.specs.private.HomeOrder.{home_in, AreInHomeOrder, CanBePlaced, HaveRoom, rotated}
 use Rattle.ijson_table.specs.private.Narrow.{Fits}
-use Rattle.ijson_table.specs.private.SlotHashes.{hashes_of, positions}
+use Rattle.ijson_table.specs.private.SlotHashes.{blank, positions}
+use Rattle.ijson_table.proofs.filling.NoneEmpty.{none_empty}
+use Rattle.ijson_table.proofs.filling.Rotation.{rotated_room}
 use Rattle.ijson_table.proofs.slots.HashesInSlots.{positions-length}
-use Rattle.ijson_table.proofs.slots.NarrowSlots.{all_fit}
 use Rattle.ijson_table.proofs.slots.IndexInvariant.{index_is, each_empty, IsIndexOf}
-use Rattle.ijson_table.proofs.index.Index.fill.Goals as goal
+use Rattle.ijson_table.proofs.slots.NarrowSlots.{all_fit}
 use Rattle.ijson_table.proofs.index.Index.fill.Given.{Over}
+use Rattle.ijson_table.proofs.index.Index.fill.Goals as goal
 
-pub fill-requires : goal.fill-requires
-fill-requires g c =
+-- the entries can be written, beginning with the one whose home slot exceeds its number the most
+can_lay : (hashes : List ℕ) (n count start first : ℕ) (sorted : List Slot) → AreInHomeOrder hashes n sorted → length hashes ≤ n → count ≡ n
+    → start < length sorted → first < count → first ≡ home_in count (get_or sorted start blank)
+    → ((k : ℕ) → k < length sorted → home_in count (get_or sorted k blank) + start ≤ home_in count (get_or sorted start blank) + k)
+    → CanBePlaced hashes n start first sorted
+can_lay hashes n count start first sorted are fits counted starts within is greatest =
+    let most = subst (λ m. (k : ℕ) → k < length sorted
+    → home_in m (get_or sorted k blank) + start ≤ home_in m (get_or sorted start blank) + k) counted greatest in
+    let home : first ≡ home_in n (get_or sorted start blank) = is ∙ ap (λ m. home_in m (get_or sorted start blank)) counted in
+    record {
+      starts = starts;
+      within = omega arith;
+      some = none_empty (length hashes) sorted are.count are.placed;
+      hashes_are = are.hashes_are;
+      room = subst (λ h. HaveRoom n h (rotated start sorted)) (sym home)
+          (rotated_room n start sorted are.sorted starts (omega (arith, fits, are.count)) most);
+    }
+
+pub returns-then-is_empty-clause-hashes : goal.returns-then-is_empty-clause-hashes
+returns-then-is_empty-clause-hashes g c = c.requires.0
+    ∙ sym (nil_from_length g.hashes (grind (arith, nat_tests, c.is_empty.ensures, c.if-is_empty.true, c.requires.1.1.0.count)))
+
+pub place_sorted-requires : goal.place_sorted-requires
+place_sorted-requires g c =
     let slots : List Slot = c.self.inside.slots in
-    let none : hashes_of slots ≡ [] = ap (λ (l : HashIndex). l.hashes) c.self.view_is ∙ c.requires.0 in
-    let sized : length (positions slots) ≡ length c.args.self.now.slots = ap (λ (l : HashIndex). length l.slots) c.self.view_is in (
-      each_empty slots c.self.invariant none,
+    let counted : c.new-modulus.result.count ≡ length slots = c.new-modulus.ensures ∙ c.len.ensures in
+    let same : length c.args.self.now.slots ≡ length slots =
+    sym (ap (λ (l : HashIndex). length l.slots) c.self.view_is) ∙ positions-length slots in (
+      counted,
       (
-        omega (arith, c.requires.1.0, sized, positions-length slots),
+        each_empty slots c.self.invariant (ap (λ (l : HashIndex). l.hashes) c.self.view_is ∙ c.requires.0),
         (
-          subst (λ n. AreInHomeOrder g.hashes n c.args.sorted.now) (sym sized ∙ positions-length slots) c.requires.1.1.0,
-          subst (λ m. All (Fits m) c.args.sorted.now) (sym sized ∙ positions-length slots) (all_fit g.hashes (length c.args.self.now.slots)
+          can_lay g.hashes (length slots) c.new-modulus.result.count c.first_in_row-start.result c.home_of_hash-first.result
+              c.args.sorted.now (subst (λ n. AreInHomeOrder g.hashes n c.args.sorted.now) same c.requires.1.1.0)
+              (omega (arith, c.requires.1.0, same)) counted c.first_in_row-start.ensures.within c.home_of_hash-first.ensures.within
+              (c.home_of_hash-first.ensures.value ∙ ap (λ h. h % c.new-modulus.result.count) c.hash.ensures)
+              c.first_in_row-start.ensures.greatest,
+          subst (λ n. All (Fits n) c.args.sorted.now) same (all_fit g.hashes (length c.args.self.now.slots)
               c.args.sorted.now c.requires.1.1.0 c.requires.1.0 c.requires.1.1.1),
         ),
       ),
     )
 
 -- the returned slots, and their hashes
-left : (g : Over) (c : goal.After-fill g) → IsIndexOf g.hashes c.fill.new.slots
-left g c = index_is g.hashes c.fill.new.slots c.fill.ensures.table (omega (arith, c.fill.ensures.count, c.self.invariant.limited))
+left : (g : Over) (c : goal.After-place_sorted g) → IsIndexOf g.hashes c.place_sorted.new.slots
+left g c = index_is g.hashes c.place_sorted.new.slots (record {
+  table = record { ordered = c.place_sorted.ensures.ordered; placed = λ i. c.place_sorted.ensures.placed i ∙ c.requires.1.1.0.placed i };
+  hashes_are = c.place_sorted.ensures.hashes;
+}) (omega (arith, c.place_sorted.ensures.count, c.self.invariant.limited))
 
 pub invariant_of-self : goal.invariant_of-self
 invariant_of-self g c = (left g c).index

@@ -1,4 +1,4 @@
 use Rattle.ijson_table.proofs.index.Index.fill.Given as goal
 
-abbrev pub ghost-fill : goal.ghost-fill
-ghost-fill g a = g.hashes
+abbrev pub ghost-place_sorted : goal.ghost-place_sorted
+ghost-place_sorted g a = g.hashes

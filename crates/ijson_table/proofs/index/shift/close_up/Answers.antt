@@ -1,11 +1,9 @@
-use Rattle.std.proofs.Common.{◌≡◌, ◌∙◌, ◌<◌, ℕ, List, length, length-append, ap, sym, subst, arith, rules, get_or, set, map, take, drop}
+use Rattle.std.proofs.Common.{◌≡◌, ◌∙◌, ◌<◌, ℕ, List, length, length-append, ap, arith, rules, get_or, set, map, take, drop}
 use Rattle.std.proofs.lemmas.List.Edits.{map_over_more}
 use Rattle.std.proofs.lemmas.List.{get_or_default, length-map, length-take, length-drop}
 use Rattle.ijson_table.specs.declared.slot.Slot.{Slot}
 use Rattle.ijson_table.specs.private.Closing.{closed}
-use Rattle.ijson_table.specs.private.Narrow.{Fits}
 use Rattle.ijson_table.specs.private.SlotHashes.{blank}
-use Rattle.ijson_table.proofs.slots.NarrowSlots.{fits-closed}
 use Rattle.ijson_table.proofs.index.shift.close_up.Goals as goal
 
 pub loop-slot-preserved : goal.loop-slot-preserved
@@ -27,7 +25,3 @@ loop-slot-preserved c =
     let is : c.closed.result ≡ closed c.args.gone c.at.result = search (rules, c.closed.ensures) in
     c.set.ensures ∙ (ap (set slots i) (is ∙ ap (closed c.args.gone) c.at.ensures.value)
     ∙ map_over_more (closed c.args.gone) old slots i read there c.loop-slot.invariant (get_or_default slots i blank read within))
-
-pub set-requires-clause-fits : goal.set-requires-clause-fits
-set-requires-clause-fits c = subst (Fits (length c.loop-slot.slots)) (sym c.closed.ensures)
-    (fits-closed (length c.loop-slot.slots) _ c.at.result c.at.ensures.fits)

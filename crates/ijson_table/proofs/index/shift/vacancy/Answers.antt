@@ -1,11 +1,11 @@
-use Rattle.std.proofs.Common.{◌≡◌, ◌⊎◌, ℕ, ◌%◌, ◌-◌, ◌<◌, List, false, length, arith, inl, inr, ◌∙◌, subst}
+use Rattle.std.proofs.Common.{◌≡◌, ◌⊎◌, ℕ, ◌%◌, ◌-◌, ◌<◌, List, false, length, arith, inl, inr}
 use Rattle.std.proofs.lemmas.Nat.{mod_below}
 use Rattle.ijson_table.specs.declared.slot.Slot.{Slot}
 use Rattle.ijson_table.specs.declared.index.probe.Probed.{Probed}
 use Rattle.ijson_table.specs.declared.index.probe.Probed.TheVariants.{Found, Vacant, Full}
 use Rattle.ijson_table.specs.private.Holds.{HasEmpty}
 use Rattle.ijson_table.specs.private.SlotHashes.{displacement_in, positions}
-use Rattle.ijson_table.specs.private.Probe.{Ends, IsVacancy}
+use Rattle.ijson_table.specs.private.Probe.{Ends}
 use Rattle.ijson_table.proofs.shifting.Insertion.{not_round}
 use Rattle.ijson_table.proofs.slots.HashesInSlots.{positions-length, displacement_in-none}
 use Rattle.ijson_table.proofs.index.shift.vacancy.Goals as goal
@@ -26,15 +26,3 @@ no_other slots hash looks e Full ends is =
 pub unreachable-requires : goal.unreachable-requires
 unreachable-requires c = no_other c.args.slots.now c.args.hash
     (c.probe.new.looks - c.new-2.result) c.requires c.probe.result c.probe.ensures.ends c.in-Found.is
-
-pub invariant_of-newcomer : goal.invariant_of-newcomer
-invariant_of-newcomer c = record { counted = c.new.ensures ∙ c.len.ensures }
-
-pub probe-requires-clause-fits : goal.probe-requires-clause-fits
-probe-requires-clause-fits c = λ m lm _. omega (arith, lm, c.new-2.ensures, c.len.ensures, positions-length c.args.slots.now)
-
-pub returns : goal.returns
-returns c =
-    let ends = c.in-Vacant.ensures.ends in
-    subst (λ n. IsVacancy (displacement_in c.args.slots.now) n (c.args.hash % length c.args.slots.now) c.in-Vacant.slot)
-    (positions-length c.args.slots.now) (ends.0, ends.1.within, ends.1.there, ends.1.passed, ends.2)

@@ -1,10 +1,9 @@
 use Rattle.std.proofs.Common.{◌≡◌, ◌<◌, length, map, arith, ap, ap₂, sym, ◌∙◌, subst}
 use Rattle.std.specs.List.{remove}
-use Rattle.ijson_table.proofs.pairs.Shown.{count_shown, hash_in, hashes_in, pairs_shown, room_shown}
+use Rattle.ijson_table.proofs.pairs.Shown.{count_shown, pairs_shown}
 use Rattle.ijson_table.proofs.pairs.PairsByKey.{slice_get-seen}
 use Rattle.ijson_table.specs.Crowd.{slot_count}
 use Rattle.ijson_table.specs.Store.{keys_of, shift_out, IsDistinct}
-use Rattle.ijson_table.specs.Placed.{Placed}
 use Rattle.ijson_table.specs.private.KeptHash.{kept_hash}
 use Rattle.ijson_table.proofs.shifting.ListShiftOut.{distinct_shifted, keys-shift_out, map-remove}
 use Rattle.ijson_table.proofs.table.TablePairStore.shift_out.Goals as goal
@@ -44,20 +43,3 @@ pub returns-clause-pair : goal.returns-clause-pair
 returns-clause-pair g c =
     slice_get-seen c.self.inside.pairs.items c.args.self.now.store.pairs c.args.index c.remove.result
     (pairs_shown c.self.view_is) c.requires c.remove.ensures.value
-
-pub returns-clause-pairs : goal.returns-clause-pairs
-returns-clause-pairs g c =
-    c.remove.ensures.items ∙ ap (λ (s : Placed g.row.V.Denot). shift_out s.store.pairs c.args.index) c.self.view_is
-
-pub returns-clause-room : goal.returns-clause-room
-returns-clause-room g c = c.remove.ensures.capacity ∙ room_shown c.self.view_is
-
-pub shift_remove-requires : goal.shift_remove-requires
-shift_remove-requires g c =
-    let last : c.len-last.result ≡ length c.args.self.now.store.pairs =
-    c.len-last.ensures ∙ (c.self.inside.pairs.ok.0 ∙ count_shown c.self.view_is) in
-    record {
-      within = omega (arith, last, c.requires);
-      last = omega (arith, last, hashes_in c.self.invariant, count_shown c.self.view_is, c.requires);
-      hash = hash_in c.self.invariant c.self.view_is _ _ c.hash_at-hash.ensures;
-    }

@@ -4,7 +4,7 @@ use Rattle.ijson_table.specs.Crowd.{slot_count}
 use Rattle.ijson_table.specs.Store.{keys_of, swap_out, IsDistinct}
 use Rattle.ijson_table.specs.Placed.{Placed}
 use Rattle.ijson_table.specs.private.KeptHash.{kept_hash}
-use Rattle.ijson_table.proofs.pairs.Shown.{count_shown, hash_in, hashes_in, pairs_shown, room_shown}
+use Rattle.ijson_table.proofs.pairs.Shown.{count_shown, pairs_shown}
 use Rattle.ijson_table.proofs.pairs.PairsByKey.{distinct_swapped, keys-length, length-swap_out, slice_get-seen, swap_out-is}
 use Rattle.ijson_table.proofs.probing.KeyHashes.{hashes-swap_out}
 use Rattle.ijson_table.proofs.table.TablePairStore.swap_out.Goals as goal
@@ -55,17 +55,3 @@ returns-clause-pair g c =
 pub returns-clause-pairs : goal.returns-clause-pairs
 returns-clause-pairs g c = left g c
     ∙ ap (λ (s : Placed g.row.V.Denot). swap_out s.store.pairs c.args.index) c.self.view_is
-
-pub swap_remove-requires : goal.swap_remove-requires
-swap_remove-requires g c =
-    let last : c.len-last.result ≡ length c.args.self.now.store.pairs =
-    c.len-last.ensures ∙ (c.self.inside.pairs.ok.0 ∙ count_shown c.self.view_is) in
-    record {
-      within = omega (arith, last, c.requires, c.if-index-last.false);
-      is_last = omega (arith, last, hashes_in c.self.invariant, count_shown c.self.view_is, c.requires);
-      hash_is = hash_in c.self.invariant c.self.view_is _ _ c.hash_at-hash.ensures;
-      last_hash_is = hash_in c.self.invariant c.self.view_is _ _ c.hash_at-last_hash.ensures;
-    }
-
-pub returns-clause-room : goal.returns-clause-room
-returns-clause-room g c = c.swap_remove-2.ensures.capacity ∙ room_shown c.self.view_is
