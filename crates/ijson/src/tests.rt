@@ -1,6 +1,6 @@
 //! Tests beyond the clauses: arrays, values, conversions, literals and errors, and failed allocations of conversions and literals.
 //!
-//! `ijson_extra` tests tables, objects and other failed allocations.
+//! `ijson_extra` tests objects and other failed allocations.
 //!
 //! A test calls `drop` when it is done with a value, which is one step of the proof. At the end of a scope, the proof has a case for each
 //! kind of the value.

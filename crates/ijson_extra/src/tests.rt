@@ -1,4 +1,4 @@
-//! Tests of tables, objects, canonical text and pointers beyond their clauses, and of failed allocations in this crate and those below.
+//! Tests of objects, canonical text and pointers beyond their clauses, and of failed allocations in this crate and those below.
 
 /// The result of a call, which is repeated if an allocation fails.
 ///
@@ -27,7 +27,6 @@ mod lent;
 mod objects;
 mod pointer;
 mod refusals;
-mod tables;
 
 use ijson_json::{JsonError, from_json, to_json};
 use ijson_string::{IString, StringCache};

@@ -1,6 +1,6 @@
 //! Stores of entries with distinct keys, in insertion order.
 //!
-//! The tests are in `ijson_extra`.
+//! The tests are in `src/tests`.
 #![tactic(auto)]
 
 mod commands;
@@ -13,6 +13,8 @@ mod slot;
 mod sorting;
 mod store;
 mod table;
+#[cfg(test)]
+mod tests;
 mod vec;
 
 pub use commands::{Command, Reply, run};

@@ -7,7 +7,6 @@ ghost use Rattle.std.specs.Prelude.{◌≡◌, ◌<◌, IfOk};
 pub(super) mod large;
 mod no_memory;
 mod objects;
-pub(super) mod tables;
 
 use super::canonical::is_canonical;
 use super::{Cache, empty_cache, is_written, parsed};

@@ -1,9 +1,8 @@
 //! Long lists of commands, to which all stores reply alike.
 
-use super::{AlwaysZero, ByLength, reply};
-use crate::tests::key;
+use super::{AlwaysZero, ByLength, key, reply};
+use crate::{Command, FixedTable, LinearPairs, PairStore, Reply, Table, run};
 use ijson_string::IString;
-use ijson_table::{Command, FixedTable, LinearPairs, PairStore, Reply, Table, run};
 use std::alloc::Global;
 use std::process::Abort;
 

@@ -1,9 +1,10 @@
 //! The behavior that all stores share.
 
 use super::Step::{Clear, Find, Put, Remove, Reserve, ShiftRemove, Shrink};
-use super::{AlwaysZero, ByLength, Step, are_pairs, command, insert_all, replies_so};
-use crate::tests::{is_shown, key};
-use ijson_table::{Command, FixedTable, LinearPairs, PairStore, Places, ReserveError, Table, run};
+use super::{
+    AlwaysZero, ByLength, Step, are_pairs, command, insert_all, is_shown, key, replies_so,
+};
+use crate::{Command, FixedTable, LinearPairs, PairStore, Places, ReserveError, Table, run};
 use std::alloc::Global;
 use std::process::Abort;
 

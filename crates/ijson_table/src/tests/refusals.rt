@@ -3,12 +3,12 @@
 //! The entries of a store are those of the numbers below their count: each has a key of its own, the number as its value, and the number as
 //! its index.
 
-use crate::tests::tables::{AlwaysZero, numbered};
-use ijson_string::IString;
-use ijson_table::{
+use super::{AlwaysZero, numbered};
+use crate::{
     Command, FixedHash, FixedTable, KeyHash, LinearPairs, PairStore, RefusedPair, Reply,
     ReserveError, Table, run,
 };
+use ijson_string::IString;
 use std::alloc::{AllocError, Global};
 use std::process::Abort;
 
@@ -264,7 +264,10 @@ static ORDERS: [(Order, usize, u16, usize); 3] = [
 
 /// Returns one command: to insert the entry of 4, to reserve capacity for one more, or to shrink.
 fn ordered(rt: &impl Abort, alloc: Global, order: Order) -> Vec<Command<u16>> {
-    let mut commands = granted!(rt; Vec::with_capacity(alloc, 1));
+    let mut commands = match Vec::with_capacity(alloc, 1) {
+        Ok(commands) => commands,
+        Err(AllocError) => Vec::with_capacity(alloc, 1).expect(rt, "a list"),
+    };
     let command = match order {
         Order::Insert => Command::Insert(numbered(rt, alloc, 4), 4),
         Order::Reserve => Command::Reserve(1),

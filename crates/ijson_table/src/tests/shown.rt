@@ -1,9 +1,8 @@
 //! The messages of errors, and the debug output of each type. The debug output of replies is with the steps of a store.
 
 use super::Step::{Clear, Find, Put, Remove, Reserve, ShiftRemove, Shrink};
-use super::{Step, command, insert_all};
-use crate::tests::{is_shown, key};
-use ijson_table::{
+use super::{Step, command, insert_all, is_shown, key};
+use crate::{
     FixedHash, FixedTable, LinearPairs, PairStore, RefusedPair, Reply, ReserveError, Seen,
 };
 use std::alloc::Global;

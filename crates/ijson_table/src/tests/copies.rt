@@ -2,10 +2,10 @@
 
 ghost use Rattle.std.specs.Prelude.{◌≡◌};
 
+use super::refusals::holds;
 use super::{AlwaysZero, numbered};
-use crate::tests::refusals::tables::holds;
+use crate::{FixedHash, KeyHash, PairStore, Table};
 use ijson_string::IString;
-use ijson_table::{FixedHash, KeyHash, PairStore, Table};
 use std::alloc::Global;
 use std::process::Abort;
 

@@ -1,10 +1,9 @@
 //! Tables checked slot by slot, and their numbers of inspections.
 
 use super::Step::{Clear, Find, Put, Remove, Reserve, ShiftRemove, Shrink};
-use super::{AlwaysZero, ByLength, Step, replies_so};
-use crate::tests::key;
+use super::{AlwaysZero, ByLength, Step, key, replies_so};
+use crate::{FixedHash, FixedTable, KeyHash, PairStore, Places, Seen, Table, locate};
 use ijson_number::Looks;
-use ijson_table::{FixedHash, FixedTable, KeyHash, PairStore, Places, Seen, Table, locate};
 use std::alloc::Global;
 use std::process::Abort;
 

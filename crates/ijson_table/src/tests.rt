@@ -1,22 +1,38 @@
-//! Tests of stores: each by commands, and tables checked slot by slot.
+//! Tests of stores beyond the clauses: each by commands, tables slot by slot, and after failed allocations.
 
 mod copies;
 mod crowds;
 mod lists;
+mod refusals;
 mod resizing;
 mod shown;
 mod sizes;
 mod slots;
 mod stores;
 
-use super::{is_shown, key};
-use ijson_string::IString;
-use ijson_table::{Command, KeyHash, PairStore, Reply, run};
+use crate::{Command, KeyHash, PairStore, Reply, run};
+use ijson_string::{IString, StringCache};
 use std::alloc::Global;
+use std::fmt::Debug;
+use std::hash::{BuildHasherDefault, FoldHasher};
 use std::process::Abort;
 
+/// Returns a string, interned in a cache of its own.
+fn key(rt: &impl Abort, alloc: Global, letters: &str) -> IString {
+    let mut cache = StringCache::new(alloc, BuildHasherDefault::<FoldHasher>::new());
+    let text = IString::intern(&mut cache, letters).expect(rt, "a text");
+    drop(cache);
+    text
+}
+
+/// Asserts the debug output of a value.
+fn is_shown<T: Debug>(rt: &impl Abort, alloc: Global, shown: &T, want: &str) {
+    let text = format!(in alloc; "{shown:?}").expect(rt, "a text");
+    assert!(*rt; text.as_str() == want, "{text} is not {want}");
+}
+
 /// Returns the key of a number: one character, which does not allocate.
-pub(super) fn numbered(rt: &impl Abort, alloc: Global, number: u16) -> IString {
+fn numbered(rt: &impl Abort, alloc: Global, number: u16) -> IString {
     let character = char::from_u32(0x4e00 + u32::from(number)).expect(rt, "a character");
     let mut bytes = [0; 4];
     key(rt, alloc, character.encode_utf8(&mut bytes))
@@ -38,7 +54,7 @@ impl KeyHash for ByLength {
 
 /// Always 0.
 #[derive(Drop)]
-pub(super) struct AlwaysZero;
+struct AlwaysZero;
 
 impl KeyHash for AlwaysZero {
     ghost hash_of = { λ text. 0 };

@@ -1,10 +1,9 @@
 //! Tables from lists of keys that were chosen to collide: their entries, and the number of inspections.
 
-use super::ByLength;
-use crate::tests::key;
+use super::{ByLength, key};
+use crate::{FixedHash, KeyHash, LinearPairs, PairStore, Table};
 use ijson_number::Looks;
 use ijson_string::IString;
-use ijson_table::{FixedHash, KeyHash, LinearPairs, PairStore, Table};
 use std::alloc::Global;
 use std::process::Abort;
 

@@ -1,9 +1,8 @@
 //! Growing and shrinking tables whose keys have one or two home slots.
 
-use super::{AlwaysZero, numbered};
-use crate::tests::key;
+use super::{AlwaysZero, key, numbered};
+use crate::{KeyHash, PairStore, Table};
 use ijson_string::IString;
-use ijson_table::{KeyHash, PairStore, Table};
 use std::alloc::Global;
 use std::process::Abort;
 

@@ -1,9 +1,8 @@
 //! Each small size, and sizes far beyond those of the other tests: no clause states that a call succeeds if memory is available.
 
-use super::{AlwaysZero, ByLength};
-use crate::tests::key;
-use crate::tests::refusals::tables::{Store, fill, holds};
-use ijson_table::{Command, FixedTable, LinearPairs, PairStore, Table, run};
+use super::refusals::{Store, fill, holds};
+use super::{AlwaysZero, ByLength, key};
+use crate::{Command, FixedTable, LinearPairs, PairStore, Table, run};
 use std::alloc::Global;
 use std::process::Abort;
 
