@@ -7,6 +7,5 @@ pub mod AppendedRuns
 pub mod MaskedRuns
 pub mod SpecialMasks
 pub mod CharBoundaries
-pub mod TableLookups
 pub mod Options
 pub mod LinesAndColumns

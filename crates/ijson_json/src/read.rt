@@ -101,6 +101,7 @@ fn read_text<S: BuildHasher>(
 ///
 /// Linear in the text, except for hash lookups of keys and strings. It recurses once per level, at most 127 times. Besides the value, it
 /// allocates for the elements and members of open arrays and objects, and for the content of the longest string with an escape.
+#[tactic(auto, using(crate::proofs::grammar::AcceptedDepth::answers_depth, crate::proofs::reading::WholeTexts::answers_printed))]
 pub fn from_json<S: BuildHasher>(
     alloc: Global,
     cache: &mut StringCache<S>,

@@ -3,7 +3,7 @@ use Rattle.std.proofs.Common.{◌≡◌, ℕ, false, List, [], ◌∷◌, ◌++�
 use Rattle.std.specs.Prelude.{IsTrue, ◌==◌, ⊤}
 use Rattle.std.proofs.lemmas.Bool.Decides.{nat_tests}
 use Rattle.ijson_number.specs.NumberBytes.{is_number_byte}
-use Rattle.ijson_value.specs.Tree.{Tree, number, array, object}
+use Rattle.ijson_value.specs.Tree.{Tree, number}
 use Rattle.ijson_json.specs.Grammar.{is_space, IsSpace, Spaced, Split}
 use Rattle.ijson_json.specs.private.Reading.{Past, Stops, Ends}
 use Rattle.ijson_json.proofs.scanning.Prefixes.{run_same, past_byte, tails, heads_apart}

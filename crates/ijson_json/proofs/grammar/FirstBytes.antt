@@ -20,10 +20,6 @@ kind b = cond (b == 110) 0 (cond (b == 116) 1 (cond (b == 102) 1
 pub number_kind : (b : ℕ) → IsTrue (is_digit b || (b == 45)) → kind b ≡ 2
 number_kind b h = grind (arith, nat_tests)
 
--- white space begins no value
-pub space_kind : (b : ℕ) → IsTrue (is_space b) → kind b ≡ 6
-space_kind b h = grind (arith, nat_tests)
-
 -- `true` and `false` begin with bytes of one kind
 boolean_first : (b : Bool) → (c : ℕ) × (more : List ℕ) × (kind c ≡ 1) × (boolean_text b ≡ c ∷ more)
 boolean_first true = (_, _, refl, refl)

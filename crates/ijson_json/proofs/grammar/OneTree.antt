@@ -1,5 +1,5 @@
 -- A text has at most one tree.
-use Rattle.std.proofs.Common.{◌≡◌, ℕ, Bool, true, false, List, [], ◌∷◌, ◌++◌, refl, sym, ap, ap₂, ◌∙◌, append_assoc, arith}
+use Rattle.std.proofs.Common.{◌≡◌, ℕ, true, false, List, [], ◌∷◌, ◌++◌, refl, sym, ap, ap₂, ◌∙◌, append_assoc, arith}
 use Rattle.std.proofs.lemmas.List.{append_cancel_left, append_cancel_right, append-nil}
 use Rattle.ijson_number.specs.NumberBytes.{is_number_byte}
 use Rattle.ijson_value.specs.Order.{rank}
@@ -10,7 +10,6 @@ use Rattle.ijson_value.specs.laws.TreeLookups.{items_of-list}
 use Rattle.ijson_json.specs.Grammar.{is_space, Spaced, null_text, boolean_text, IsString, IsValue}
 use Rattle.ijson_json.specs.OneTree.{OneTree}
 use Rattle.ijson_json.specs.Settled.{settled}
-use Rattle.ijson_json.specs.private.Reading.{Pair}
 use Rattle.ijson_number.proofs.parsing.Denotes.{spells_one}
 use Rattle.ijson_number.proofs.parsing.SpelledBytes.{spells_bytes}
 use Rattle.ijson_json.proofs.scanning.Prefixes.{run_same, tails, heads_apart}

@@ -1,5 +1,5 @@
 -- Examples of the definitions: an accepted text, a duplicate key, and printed text.
-use Rattle.std.proofs.Common.{◌≡◌, ℕ, true, false, [], ◌∷◌, refl, arith}
+use Rattle.std.proofs.Common.{◌≡◌, ℕ, true, false, [], refl, arith}
 use Rattle.std.specs.Prelude.{pos, negsuc, codes}
 use Rattle.ijson_value.specs.Tree.{Tree, null, boolean, number, array, object, no_items, item, no_members, member}
 use Rattle.ijson_json.specs.Settled.{settled}

@@ -1,5 +1,5 @@
 -- The cache while a text is read.
-use Rattle.std.proofs.Common.{◌≡◌, ℕ, ◌<◌, Bool, true, false, List, [], ◌∷◌, ◌++◌, length, refl, sym, ap, subst, ◌∙◌, append_assoc, inl}
+use Rattle.std.proofs.Common.{◌≡◌, ℕ, Bool, true, false, List, [], ◌∷◌, ◌++◌, length, refl, sym, ap, ◌∙◌, append_assoc, inl}
 use Rattle.std.proofs.Common.{inr}
 use Rattle.std.specs.Prelude.{◌||◌, ◌&&◌, ltb, if◌then◌else◌}
 use Rattle.std.specs.FinSet as set
@@ -14,7 +14,7 @@ use Rattle.ijson_table.proofs.pairs.PutEach.{put_each-append}
 use Rattle.ijson_value.specs.Tree.{Tree, string, array, object, Items, no_items, item, Members, no_members, member}
 use Rattle.ijson_value.specs.WellFormed.{WellFormed, item_trees, pair_trees}
 use Rattle.ijson_json.specs.Grammar.{IsString}
-use Rattle.ijson_json.specs.private.Reading.{Front, KeyRead}
+use Rattle.ijson_json.specs.private.Reading.{Front, KeyRead, Skips}
 use Rattle.ijson_json.proofs.reading.Members.{key_behind}
 use Rattle.ijson_json.proofs.reading.StringContent.{string_first}
 use Rattle.ijson_json.specs.AddsOnlyRead.{IsSpelledIn, AddsOnlyRead}
@@ -37,9 +37,9 @@ adds_more text head rest old middle new e a b = record {
   added = λ s h. elim (b.added s h) [ inl m ↦ a.added s m | inr p ↦ inr (p.0, spelled_behind text head rest s e p.1) ];
 }
 
--- nothing of the head was read into the cache
-pub adds_behind : (text head rest : List ℕ) (old new : Texts) → text ≡ head ++ rest → AddsOnlyRead rest old new → AddsOnlyRead text old new
-adds_behind text head rest old new e a = adds_more text head rest old old new e (adds_none text old) a
+-- nothing of leading white space was read into the cache
+pub adds_behind : {text start : List ℕ} {old new : Texts} → Skips text start → AddsOnlyRead start old new → AddsOnlyRead text old new
+adds_behind {text} {start} {old} {new} s a = adds_more text s.space start old old new s.is (adds_none text old) a
 
 -- more was read after a key
 pub adds_behind_key : {k text cur : List ℕ} {old middle new : Texts} → KeyRead k text cur → AddsOnlyRead text old middle

@@ -1,11 +1,10 @@
 -- A fault in an element, or after one, is a fault of the array or object.
-use Rattle.std.proofs.Common.{◌≡◌, ℕ, ◌+◌, ◌<◌, ◌≤◌, Bool, true, false, List, [], ◌∷◌, ◌++◌, length, sym, ap, ap₂, subst, ◌∙◌, inl, inr}
+use Rattle.std.proofs.Common.{◌≡◌, ℕ, ◌+◌, ◌≤◌, Bool, false, List, [], ◌∷◌, ◌++◌, length, sym, ap, ap₂, subst, ◌∙◌, inl, inr}
 use Rattle.std.proofs.Common.{append_assoc, arith}
 use Rattle.std.specs.Prelude.{◌&&◌, ◌⊎◌, Result, Ok, Err, MatchResult, IfErr}
 use Rattle.std.proofs.lemmas.List.{append-nil, length-append}
-use Rattle.ijson_value.specs.Tree.{Tree, depth}
+use Rattle.ijson_value.specs.Tree.{Tree}
 use Rattle.ijson_json.specs.Ranged.{is_ranged}
-use Rattle.ijson_json.specs.Grammar.{IsValue}
 use Rattle.ijson_json.specs.Limits.{max_depth}
 use Rattle.ijson_json.specs.private.Reading.{IsBeyond, NoValue}
 use Rattle.ijson_json.specs.private.Explains.{Explains, ExplainsOf}

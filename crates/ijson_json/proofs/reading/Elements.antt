@@ -5,7 +5,7 @@ use Rattle.std.specs.Prelude.{◌&&◌, ◌==◌, ◌⊎◌}
 use Rattle.ijson_value.specs.Tree.{Tree, depth}
 use Rattle.ijson_json.specs.Ranged.{is_ranged}
 use Rattle.ijson_json.specs.Grammar.{is_space, IsSpace, IsValue}
-use Rattle.ijson_json.specs.private.Reading.{Closes, GoesOn, IsStuck, Past, Ends, Front, IsRead, NoValue}
+use Rattle.ijson_json.specs.private.Reading.{Closes, GoesOn, Skips, IsStuck, Past, Ends, Front, IsRead, NoValue}
 use Rattle.ijson_json.proofs.scanning.Prefixes.{run_same, past_byte, tails, heads_apart}
 use Rattle.ijson_json.proofs.reading.ElementLists.{deepest, all_ranged, deepest-append, ranged-append, ElementRead, absorb, one_more}
 use Rattle.ijson_json.proofs.grammar.CommaLists.{IsList, Shape, At, ElementSame, first_same, at_elements}
@@ -66,13 +66,13 @@ module _ (E : Type 0) (S : Shape E) (L : Listing E S) where
       go t x (u ∷ more) i f v g = record { next = u; more = more; is = f; at = at_elements E S u more s cur i x h p v (sym e ∙ g) }
 
   -- no elements
-  pub empty_read : (opened : ℕ) (inside rest : List ℕ) → opened < max_depth → Closes S.closing inside rest
+  pub empty_read : (opened : ℕ) (inside start rest : List ℕ) → opened < max_depth → Skips inside start → start ≡ S.closing ∷ rest
       → IsRead opened (L.opening ∷ inside) (L.wrap []) rest
-  empty_read opened inside rest o s = record {
+  empty_read opened inside start rest o s e = record {
     found = record {
       front = L.opening ∷ (s.space ++ S.closing ∷ []);
       holds = L.builds [] s.space s.passed;
-      is = rw s.is (simp append_assoc);
+      is = rw (s.is, e) (simp append_assoc);
     };
     ends = L.ends [] rest;
     deep = omega (arith, L.depth_is []);

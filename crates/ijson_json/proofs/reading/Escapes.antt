@@ -1,16 +1,16 @@
 -- Leading escapes of a text: digits, four of them, one escape or a pair of two.
-use Rattle.std.proofs.Common.{◌≡◌, ℕ, ◌+◌, ◌*◌, ◌<◌, ◌≤◌, false, cond, List, [], ◌∷◌, ◌++◌, length, get_or, drop, Some, None, refl, sym}
-use Rattle.std.proofs.Common.{ap, subst, ◌∙◌, append_assoc, arith, inl, inr}
+use Rattle.std.proofs.Common.{◌≡◌, ℕ, ◌+◌, ◌*◌, ◌<◌, ◌≤◌, false, cond, List, [], ◌∷◌, ◌++◌, length, get_or, drop, Option, Some, None, refl, sym}
+use Rattle.std.proofs.Common.{ap, ◌∙◌, append_assoc, arith, inl, inr}
 use Rattle.std.specs.Prelude.{IsTrue, ◌||◌, ◌==◌, ◌⊎◌, ◌≢◌, nat_lt}
 use Rattle.std.specs.Char.{encode_utf8, InScalarRange, OutOfScalarRange}
 use Rattle.std.specs.Str.Pattern.{FindsTextPrefix, StripsPrefix}
-use Rattle.std.proofs.lemmas.Bool.{cases_lt, lt-ltb}
+use Rattle.std.proofs.lemmas.Bool.{lt-ltb}
 use Rattle.std.proofs.lemmas.Bool.Decides.{nat_tests}
 use Rattle.std.proofs.lemmas.Str.{encode_ascii}
 use Rattle.ijson_json.specs.Strings.{is_unescaped, short_escape, hex_digit, Hex, is_high_surrogate, is_low_surrogate, Character}
 use Rattle.ijson_json.specs.Strings.{unescaped, short, unicode, pair}
 use Rattle.ijson_json.specs.private.Reading.{Past}
-use Rattle.ijson_json.specs.private.StringReading.{HexAt, CharacterAt, NoHex, NoCharacter, NoEscape, NoLow, LowAt}
+use Rattle.ijson_json.specs.private.StringReading.{hex_code, HexAt, CharacterAt, NoHex, NoCharacter, NoEscape, NoLow, LowAt}
 use Rattle.ijson_json.proofs.scanning.Prefixes.{not_both, past_first, heads, tails}
 use Rattle.ijson_json.proofs.grammar.StringBodies.{four_digits, hex_same}
 
@@ -43,34 +43,42 @@ meaning_none b h = grind (arith, nat_tests)
 
 -- ---- four digits
 
+-- a digit is below 16, and ASCII
+pub digit_small : (b d : ℕ) → hex_digit b ≡ Some d → (d < 16) × (b < 128)
+unfolding hex_digit
+digit_small b d h = (grind (arith, nat_tests), grind (arith, nat_tests))
+
+-- a value that does not exceed four digits is that of a digit
+pub code_digit : (o : Option ℕ) (v : ℕ) → v ≡ hex_code o → v < 65536 → o ≡ Some v
+code_digit (Some d) v is less = ap Some (sym is)
+code_digit None v is less = absurd (omega arith)
+
 -- four digits, and the text after them
 pub hex_at : (text bytes rest : List ℕ) (x y z w : ℕ) → bytes ≡ text → 4 ≤ length bytes → rest ≡ drop 4 text
-    → hex_digit (get_or bytes 0 0) ≡ Some x → hex_digit (get_or bytes 1 0) ≡ Some y → hex_digit (get_or bytes 2 0) ≡ Some z
-    → hex_digit (get_or bytes 3 0) ≡ Some w → HexAt text (x * 4096 + (y * 256 + (z * 16 + w))) rest
-hex_at text (a ∷ b ∷ c ∷ d ∷ more) rest x y z w t l e f g h i =
-    let behind : rest ≡ more = e ∙ ap (λ (l : List ℕ). drop 4 l) (sym t) in
-    (a ∷ b ∷ c ∷ d ∷ [], four_digits f g h i refl, rw behind (sym t))
-hex_at text bytes rest x y z w t l e f g h i = absurd (omega arith)
-
--- the value of a byte that is not a digit exceeds any four digits
-pub digit_below : (v sum : ℕ) (P : Type 0) → (16 ≤ v → (v ≡ 65536) × P) → v ≤ sum → sum < 65536 → v < 16
-digit_below v sum P none within less = elim (cases_lt v 16) [ inl l ↦ l | inr g ↦ absurd (let e = (none g).0 in omega arith) ]
-
--- the value of a byte that is a digit is below 16
-digit_counts : (v b x : ℕ) → (16 ≤ v → (v ≡ 65536) × (hex_digit b ≡ None)) → hex_digit b ≡ Some x → v < 16
-digit_counts v b x none some = elim (cases_lt v 16) [ inl l ↦ l | inr g ↦ absurd (let e = (none g).1 in cc) ]
+    → x ≡ hex_code (hex_digit (get_or bytes 0 0)) → y ≡ hex_code (hex_digit (get_or bytes 1 0))
+    → z ≡ hex_code (hex_digit (get_or bytes 2 0)) → w ≡ hex_code (hex_digit (get_or bytes 3 0))
+    → x * 4096 + (y * 256 + (z * 16 + w)) < 65536 → HexAt text (x * 4096 + (y * 256 + (z * 16 + w))) rest
+hex_at text (a ∷ b ∷ c ∷ d ∷ more) rest x y z w t l e f g h i less =
+    let behind : rest ≡ more = e ∙ ap (λ (l : List ℕ). drop 4 l) (sym t) in (
+      a ∷ b ∷ c ∷ d ∷ [],
+      four_digits (code_digit _ x f (omega arith)) (code_digit _ y g (omega arith)) (code_digit _ z h (omega arith))
+          (code_digit _ w i (omega arith)) refl,
+      rw behind (sym t),
+    )
+hex_at text bytes rest x y z w t l e f g h i less = absurd (omega arith)
 
 -- if the sum is too large, one of four bytes is not a digit
-pub no_hex : (text bytes : List ℕ) (x y z w : ℕ) → bytes ≡ text → (16 ≤ x → (x ≡ 65536) × (hex_digit (get_or bytes 0 0) ≡ None))
-    → (16 ≤ y → (y ≡ 65536) × (hex_digit (get_or bytes 1 0) ≡ None)) → (16 ≤ z → (z ≡ 65536) × (hex_digit (get_or bytes 2 0) ≡ None))
-    → (16 ≤ w → (w ≡ 65536) × (hex_digit (get_or bytes 3 0) ≡ None)) → 65536 ≤ x * 4096 + (y * 256 + (z * 16 + w)) → NoHex text
-no_hex text bytes x y z w t nx ny nz nw over u rest (h, hex, e) =
+pub no_hex : (text bytes : List ℕ) (x y z w : ℕ) → bytes ≡ text
+    → x ≡ hex_code (hex_digit (get_or bytes 0 0)) → y ≡ hex_code (hex_digit (get_or bytes 1 0))
+    → z ≡ hex_code (hex_digit (get_or bytes 2 0)) → w ≡ hex_code (hex_digit (get_or bytes 3 0))
+    → 65536 ≤ x * 4096 + (y * 256 + (z * 16 + w)) → NoHex text
+no_hex text bytes x y z w t f g i j over u rest (h, hex, e) =
     let is : bytes ≡ hex.a ∷ hex.b ∷ hex.c ∷ hex.d ∷ rest = t ∙ e ∙ ap (λ (l : List ℕ). l ++ rest) hex.text_is in
-    let first = digit_counts x (get_or bytes 0 0) hex.x nx (ap (λ (l : List ℕ). hex_digit (get_or l 0 0)) is ∙ hex.first) in
-    let second = digit_counts y (get_or bytes 1 0) hex.y ny (ap (λ (l : List ℕ). hex_digit (get_or l 1 0)) is ∙ hex.second) in
-    let third = digit_counts z (get_or bytes 2 0) hex.z nz (ap (λ (l : List ℕ). hex_digit (get_or l 2 0)) is ∙ hex.third) in
-    let fourth = digit_counts w (get_or bytes 3 0) hex.w nw (ap (λ (l : List ℕ). hex_digit (get_or l 3 0)) is ∙ hex.fourth) in
-    omega arith
+    let first : x ≡ hex.x = rw (is, hex.first) at f in
+    let second : y ≡ hex.y = rw (is, hex.second) at g in
+    let third : z ≡ hex.z = rw (is, hex.third) at i in
+    let fourth : w ≡ hex.w = rw (is, hex.fourth) at j in
+    omega (arith, digit_small _ _ hex.first, digit_small _ _ hex.second, digit_small _ _ hex.third, digit_small _ _ hex.fourth)
 
 -- ---- after a backslash and `u`
 

@@ -1,7 +1,7 @@
 -- The values stored for the elements of an array and the members of an object, as they are read.
-use Rattle.std.proofs.Common.{◌≡◌, ℕ, List, [], ◌∷◌, ◌++◌, map, refl, ap, ◌∙◌}
+use Rattle.std.proofs.Common.{◌≡◌, ℕ, List, [], ◌∷◌, ◌++◌, map, refl}
 use Rattle.std.proofs.lemmas.List.{map-append}
-use Rattle.ijson_table.specs.Store.{put, put_each}
+use Rattle.ijson_table.specs.Store.{put_each}
 use Rattle.ijson_table.proofs.pairs.PutEach.{put_each-append}
 use Rattle.ijson_value.specs.Tree.{Tree, items_of, members_of}
 use Rattle.ijson_value.specs.laws.MemberTrees.{pair_tree, put-trees}

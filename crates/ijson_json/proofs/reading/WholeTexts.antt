@@ -1,5 +1,5 @@
 -- A whole text that is read or rejected.
-use Rattle.std.proofs.Common.{◌≡◌, ℕ, ◌<◌, ◌≤◌, Bool, true, List, [], ◌++◌, length, Result, Ok, Err, refl, sym, ap, subst, ◌∙◌}
+use Rattle.std.proofs.Common.{◌≡◌, ℕ, ◌≤◌, Bool, true, List, [], ◌++◌, length, Result, Ok, Err, refl, sym, ap, ◌∙◌}
 use Rattle.std.proofs.Common.{append_assoc, arith}
 use Rattle.std.specs.Prelude.{MatchResult}
 use Rattle.std.proofs.lemmas.List.{append-nil, nil_from_length}
@@ -16,7 +16,7 @@ use Rattle.ijson_json.specs.Print.{print}
 use Rattle.ijson_json.specs.private.Reading.{Stops, Front, Skips, IsRead, IsBeyond}
 use Rattle.ijson_json.specs.Refuses.{Refuses, Passes}
 use Rattle.ijson_json.specs.private.Explains.{Explains, Answers, error_of}
-use Rattle.ijson_json.proofs.scanning.Prefixes.{run_same, not_both}
+use Rattle.ijson_json.proofs.scanning.Prefixes.{run_same}
 use Rattle.ijson_json.proofs.grammar.OneTree.{value_same, one_tree}
 use Rattle.ijson_json.proofs.grammar.CommaLists.{space-Stops, Ends-any}
 use Rattle.ijson_json.proofs.grammar.TotalReads.{only_memory}

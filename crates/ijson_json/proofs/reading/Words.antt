@@ -1,17 +1,15 @@
 -- The words `null`, `true` and `false`: reading one, and why there is none.
-use Rattle.std.proofs.Common.{◌≡◌, ℕ, ◌≤◌, Bool, true, false, List, ◌∷◌, ◌++◌, refl, sym, ap, subst, ◌∙◌, arith}
+use Rattle.std.proofs.Common.{◌≡◌, ℕ, ◌≤◌, Bool, true, false, List, ◌∷◌, ◌++◌, refl, sym, ap, ◌∙◌, arith}
 use Rattle.std.specs.Prelude.{◌≢◌, Result, MatchResult}
 use Rattle.std.specs.Borrow.{Bor}
 use Rattle.std.proofs.lemmas.Result.{MatchResult-weaker}
 use Rattle.ijson_string.specs.Cache.{Texts}
 use Rattle.ijson_value.specs.Order.{rank}
-use Rattle.ijson_value.specs.Tree.{Tree, null, boolean, depth}
+use Rattle.ijson_value.specs.Tree.{Tree, null, boolean}
 use Rattle.ijson_value.specs.WellFormed.{WellFormed}
 use Rattle.ijson_json.specs.AreShared.{AreShared}
 use Rattle.ijson_json.specs.Grammar.{IsValue, null_text, boolean_text}
 use Rattle.ijson_json.specs.Limits.{max_depth}
-use Rattle.ijson_json.specs.Ranged.{is_ranged}
-use Rattle.ijson_json.specs.Settled.{settled}
 use Rattle.ijson_json.specs.private.Reading.{Front, NoValue, ReadAs}
 use Rattle.ijson_json.specs.private.Explains.{Explains, WordFault}
 use Rattle.ijson_json.specs.private.ReadsScalar.{ReadsScalar}

@@ -1,12 +1,12 @@
 -- Runs of bytes that need no escape in a string.
-use Rattle.std.proofs.Common.{◌≡◌, ℕ, ◌+◌, ◌<◌, ◌≤◌, Bool, true, false, cond, List, [], ◌∷◌, length, take, drop, get_or, refl, sym, ap, arith}
+use Rattle.std.proofs.Common.{◌≡◌, ℕ, ◌+◌, ◌-◌, inl, inr, ◌<◌, ◌≤◌, Bool, true, false, cond, List, [], ◌∷◌, length, take, drop, get_or, refl, sym, ap, arith}
 use Rattle.std.proofs.Common.{add-zero, ltb, ◌∙◌}
 use Rattle.std.specs.Prelude.{Option, IsTrue, not, unwrap_or, Some, None}
 use Rattle.std.specs.List.{prefix_len, position, position_or_len}
 use Rattle.std.specs.Str.{IsCharBoundary}
-use Rattle.std.proofs.lemmas.Bool.{eq-eqb, ltb-true, ltb-false}
+use Rattle.std.proofs.lemmas.Bool.{cases_lt, eq-eqb}
 use Rattle.std.proofs.lemmas.Bool.Decides.{nat_tests}
-use Rattle.std.proofs.lemmas.List.{get_or-take, get_or-drop, length-drop, length-take-le, take-append-drop}
+use Rattle.std.proofs.lemmas.List.{drop-drop, get_or-take, get_or-drop, length-drop, length-take-le, take-append-drop}
 use Rattle.std.proofs.lemmas.List.Elements.{recursion_from_All}
 use Rattle.std.proofs.lemmas.List.Folds.{prefix_len-append}
 use Rattle.std.proofs.lemmas.List.Sums.{prefix_len_passes, prefix_len_stops, prefix_len-le-length}
@@ -52,15 +52,11 @@ special_ascii b h = grind (arith, nat_tests)
 
 -- a text may be split after a run
 pub run_boundary : (text : List ℕ) → IsCharBoundary text (prefix_len is_unescaped text)
-run_boundary text = elim (ltb n (length text)) as (λ v. ltb n (length text) ≡ v → IsCharBoundary text n) [
-  | true ↦ λ inside. let h : n < length text = ltb-true n (length text) inside in
-      IsCharBoundary-before_ascii text n h (special_ascii _ (prefix_len_stops is_unescaped text 0 h))
-  | false ↦ λ outside. let h : n ≡ length text = omega (arith, ltb-false n (length text) outside, prefix_len-le-length is_unescaped text) in
-      rw h (IsCharBoundary-end text)
-] refl
-  where
-    n : ℕ
-    n = prefix_len is_unescaped text
+run_boundary text = elim (cases_lt (prefix_len is_unescaped text) (length text)) [
+  | inl h ↦ IsCharBoundary-before_ascii text _ h (special_ascii _ (prefix_len_stops is_unescaped text 0 h))
+  | inr h ↦ let all : prefix_len is_unescaped text ≡ length text = omega (arith, h, prefix_len-le-length is_unescaped text) in
+      rw all (IsCharBoundary-end text)
+]
 
 -- the first byte that does not fail the opposite test
 pub run_twice : (p : ℕ → Bool) (xs : List ℕ) → position_or_len (λ b. not (p b)) xs ≡ prefix_len p xs
@@ -71,18 +67,19 @@ run_twice p (x ∷ xs) = elim (p x) as (λ v. cond (not (not v)) (1 + position_o
       | false ↦ refl
     ]
 
+-- a number below a bound, or the bound
+first_or_all : (first : ℕ) {run all : ℕ} → first ≡ run → run ≤ all → unwrap_or (cond (ltb first all) (Some first) None) all ≡ run
+first_or_all first is within = grind (arith, nat_tests)
+
 -- the first byte that fails ends the run, or the text does
 pub run_end : (p : ℕ → Bool) (xs : List ℕ) {n : ℕ} {found : Option ℕ} → n ≡ unwrap_or found (length xs)
     → found ≡ position (λ b. not (p b)) xs → n ≡ prefix_len p xs
-run_end p xs {n} {found} is first =
-    is ∙ ap (λ o. unwrap_or o (length xs)) first
-    ∙ elim (ltb (position_or_len (λ b. not (p b)) xs) (length xs)) as (λ v. ltb (position_or_len (λ b. not (p b)) xs) (length xs) ≡ v
-    → unwrap_or (cond v (Some (position_or_len (λ b. not (p b)) xs)) None) (length xs) ≡ prefix_len p xs) [
-      | true ↦ λ _. run_twice p xs
-      | false ↦ λ outside. omega (
-        arith,
-        ltb-false (position_or_len (λ b. not (p b)) xs) (length xs) outside,
-        run_twice p xs,
-        prefix_len-le-length p xs,
-      )
-    ] refl
+run_end p xs {n} {found} is first = is ∙ ap (λ o. unwrap_or o (length xs)) first ∙ first_or_all _ (run_twice p xs) (prefix_len-le-length p xs)
+
+-- the longest run from an index, and the text after it
+pub run_from : (p : ℕ → Bool) (xs : List ℕ) (start end : ℕ) → end ≡ start + prefix_len p (drop start xs)
+    → Run p (take (end - start) (drop start xs)) × Past p (drop end xs)
+run_from p xs start end e =
+    let left = drop start xs in
+    let few : end - start ≡ prefix_len p left = omega (arith, e) in
+    (rw few (run_passes p left), rw (e, ← drop-drop (prefix_len p left) start xs) (run_stops p left))

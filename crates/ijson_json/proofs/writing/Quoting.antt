@@ -1,11 +1,10 @@
 -- Writing a string.
-use Rattle.std.proofs.Common.{◌≡◌, ℕ, ◌+◌, ◌<◌, ◌/◌, ◌%◌, false, cond, List, [], ◌∷◌, ◌++◌, length, length-append, take, drop, Result}
+use Rattle.std.proofs.Common.{◌≡◌, ℕ, ◌<◌, ◌/◌, ◌%◌, false, cond, List, [], ◌∷◌, ◌++◌, Result}
 use Rattle.std.proofs.Common.{Ok, Err, refl, sym, ap, ap₂, ◌∙◌, append_assoc, arith}
 use Rattle.std.specs.Prelude.{IsTrue, ◌==◌, ◌≢◌, nat_lt, OnOk, OnErr, Some, is_ok, if◌then◌else◌}
 use Rattle.std.specs.Char.{encode_utf8}
 use Rattle.std.proofs.lemmas.Bool.Decides.{nat_tests}
-use Rattle.std.proofs.Math.Seq.{take-add}
-use Rattle.std.proofs.lemmas.List.{append-nil, take_at, take-append-drop}
+use Rattle.std.proofs.lemmas.List.{append-nil}
 use Rattle.std.proofs.lemmas.Str.{encode_ascii}
 use Rattle.ijson_json.specs.Strings.{is_unescaped}
 use Rattle.ijson_json.specs.Print.{escaped, all_escaped, hex_text}
@@ -19,10 +18,14 @@ escaped_plain : (b : ℕ) → IsTrue (is_unescaped b) → escaped b ≡ b ∷ []
 unfolding escaped
 escaped_plain b h = grind (arith, nat_tests)
 
+-- escaping a run and the text after it
+run-append : (run after : List ℕ) → Run is_unescaped run → all_escaped (run ++ after) ≡ run ++ all_escaped after
+run-append [] after h = refl
+run-append (b ∷ run) after h = ap₂ ◌++◌ (escaped_plain b h.0) (run-append run after h.1)
+
 -- a run is written unchanged
 pub all_escaped-run : (run : List ℕ) → Run is_unescaped run → all_escaped run ≡ run
-all_escaped-run [] h = refl
-all_escaped-run (b ∷ run) h = ap₂ ◌++◌ (escaped_plain b h.0) (all_escaped-run run h.1)
+all_escaped-run run h = let all = run-append run [] h in simp append-nil at all
 
 -- the end of a text is written
 pub written_end : (old out text end : List ℕ) → out ≡ old ++ all_escaped text → out ++ end ≡ old ++ (all_escaped text ++ end)
@@ -98,11 +101,6 @@ pub record Escaping (old out text left : List ℕ) : Type 0 where
   pub is : out ≡ old ++ done
   pub whole : all_escaped text ≡ done ++ all_escaped left
 
--- escaping a run and the text after it
-run-append : (run after : List ℕ) → Run is_unescaped run → all_escaped (run ++ after) ≡ run ++ all_escaped after
-run-append [] after h = refl
-run-append (b ∷ run) after h = ap₂ ◌++◌ (escaped_plain b h.0) (run-append run after h.1)
-
 module _ {old out text left : List ℕ} (w : Escaping old out text left) where
   -- a run is written
   pub escaping_run : {new : List ℕ} (run after : List ℕ) → left ≡ run ++ after → Run is_unescaped run → new ≡ out ++ run
@@ -166,24 +164,21 @@ pub escaped_control : (b : ℕ) → is_unescaped b ≡ false → letter_of b ≡
 unfolding escaped
 escaped_control b h k = (grind (arith, nat_tests), grind (arith, nat_tests))
 
--- a backslash and a letter are written
-pub letter_written : (old out : List ℕ) (b letter : ℕ) → letter ≡ letter_of b → letter ≢ 117 → out ≡ old ++ encode_utf8 92
-    → out ++ encode_utf8 letter ≡ old ++ escaped b
-letter_written old out b letter e other f =
-    let same : letter ∷ [] ≡ letter_of b ∷ [] = ap (λ (n : ℕ). n ∷ []) e in
-    ap₂ ◌++◌ (f ∙ ap (λ (l : List ℕ). old ++ l) (encode_ascii 92 (omega arith))) (encode_ascii letter (omega (arith, letter_ascii b, e))
-    ∙ same)
-    ∙ append_assoc old (92 ∷ []) (letter_of b ∷ []) ∙ ap (λ (l : List ℕ). old ++ l) (sym (escaped_letter b (rw e at other)))
+module _ (old : List ℕ) (b letter : ℕ) (e : letter ≡ letter_of b) (other : letter ≢ 117) where
+  escape_is : escaped b ≡ 92 ∷ letter ∷ []
+  escape_is = escaped_letter b (rw e at other) ∙ ap (λ (n : ℕ). 92 ∷ n ∷ []) (sym e)
 
--- if the letter is not written
-pub letter_begun : (old out new : List ℕ) (b letter : ℕ) → letter ≡ letter_of b → letter ≢ 117 → out ≡ old ++ encode_utf8 92 → new ≡ out
-    → WritesBeginning (Some old) (Some new) (escaped b)
-letter_begun old out new b letter e other f same =
-    begun old new (92 ∷ []) (letter_of b ∷ []) (escaped b) (same ∙ f ∙ ap (λ (l : List ℕ). old ++ l) (encode_ascii 92 (omega arith)))
-    (λ n. cc n) (escaped_letter b (rw e at other))
+  -- a backslash and a letter are written
+  pub letter_written : {out : List ℕ} → out ≡ old ++ encode_utf8 92 → out ++ encode_utf8 letter ≡ old ++ escaped b
+  letter_written f = rw (escape_is, f, encode_ascii 92 (omega arith), encode_ascii letter (omega (arith, letter_ascii b, e)))
+      (append_assoc old (92 ∷ []) (letter ∷ []))
 
--- if the backslash is not written
-pub letter_unbegun : (old new : List ℕ) (b letter : ℕ) → letter ≡ letter_of b → letter ≢ 117 → new ≡ old
-    → WritesBeginning (Some old) (Some new) (escaped b)
-letter_unbegun old new b letter e other same =
-    begun old new [] (92 ∷ letter_of b ∷ []) (escaped b) (same ∙ sym (append-nil old)) (λ n. cc n) (escaped_letter b (rw e at other))
+  -- if the letter is not written
+  pub letter_begun : {out new : List ℕ} → out ≡ old ++ encode_utf8 92 → new ≡ out → WritesBeginning (Some old) (Some new) (escaped b)
+  letter_begun {out} {new} f same = rw escape_is (begun old new (92 ∷ []) (letter ∷ []) (92 ∷ letter ∷ [])
+      (same ∙ rw (encode_ascii 92 (omega arith)) at f) (λ n. cc n) refl)
+
+  -- if the backslash is not written
+  pub letter_unbegun : {new : List ℕ} → new ≡ old → WritesBeginning (Some old) (Some new) (escaped b)
+  letter_unbegun {new} same = rw escape_is (begun old new [] (92 ∷ letter ∷ []) (92 ∷ letter ∷ []) (same ∙ sym (append-nil old))
+      (λ n. cc n) refl)

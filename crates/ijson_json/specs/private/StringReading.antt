@@ -1,9 +1,14 @@
 -- The results of the functions that read a string, at the start of a text.
-use Rattle.std.specs.Prelude.{◌≡◌, ℕ, ◌≤◌, List, ◌∷◌, ◌++◌, ⊤, length, IsTrue}
+use Rattle.std.specs.Prelude.{◌≡◌, ℕ, ◌≤◌, List, ◌∷◌, ◌++◌, ⊤, length, IsTrue, Option, Some, None}
 use Rattle.std.specs.Char.{encode_utf8}
 use Rattle.ijson_json.specs.Strings.{Hex, Character, is_low_surrogate, paired, StringBody}
 use Rattle.ijson_json.specs.declared.fault.Fault.{Fault}
 use Rattle.ijson_json.specs.declared.fault.Fault.TheVariants as faults
+
+-- the value of a hexadecimal digit, or for another byte a number that exceeds any four digits
+abbrev pub hex_code : Option ℕ → ℕ
+hex_code (Some d) = d
+hex_code None = 65536
 
 -- four hexadecimal digits, and the number that they spell
 abbrev pub HexAt : List ℕ → ℕ → List ℕ → Type 0

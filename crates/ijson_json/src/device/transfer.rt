@@ -35,6 +35,7 @@ impl From<AllocError> for ReadFault {
 }
 
 /// Reads the rest of `input` into the buffer that it returns.
+#[tactic(auto, using(crate::proofs::devices::TransferredBytes::consumes_piece))]
 pub(crate) fn read_all<R: Source>(alloc: Global, input: &mut R) -> Result<Vec<u8>, ReadFault>
     requires { R.failed input.old + 1 < 2 ^ 64 }
     ensures bytes { IfOk result (λ v. Consumes (R.left input.old) (R.left input.new) v.items) }

@@ -17,6 +17,7 @@ pub(crate) enum Delimiter<'a> {
 }
 
 /// Reads the delimiter after an element or member of a container that `closing` closes.
+#[tactic(auto, using(crate::proofs::scanning::Prefixes::closes))]
 #[inline(always)]
 pub(crate) fn read_delimiter(text: &str, closing: u8) -> Result<Delimiter<'_>, Fault>
     requires { closing < 128 }

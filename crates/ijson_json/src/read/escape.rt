@@ -1,9 +1,9 @@
 //! The escapes of a string.
 
-ghost use Rattle.std.specs.Prelude.{◌≡◌, ◌∷◌, ◌<◌, ◌≤◌, None, Some, IsTrue, IfSome, MatchOption};
+ghost use Rattle.std.specs.Prelude.{◌≡◌, ◌∷◌, ◌<◌, ◌≤◌, IsTrue, IfSome, MatchOption};
 ghost use Rattle.std.specs.Char.{encode_utf8};
 ghost use Rattle.ijson_json.specs.Strings.{short_escape, hex_digit, is_high_surrogate, is_low_surrogate};
-ghost use Rattle.ijson_json.specs.private.StringReading.{HexAt, NoHex, CharacterAt, NoCharacter, NoEscape, LowAt, NoLow};
+ghost use Rattle.ijson_json.specs.private.StringReading.{hex_code, HexAt, NoHex, CharacterAt, NoCharacter, NoEscape, LowAt, NoLow};
 
 use crate::scan::prefix::{split_ascii, strip_byte};
 
@@ -77,9 +77,8 @@ static DIGITS: [u32; 256] = [
 /// Returns the value of a hexadecimal digit, or `NO_DIGIT` for another byte.
 #[inline(always)]
 fn hex_value(byte: u8) -> u32
-    ensures digit { result < 16 → hex_digit byte ≡ Some result }
-    ensures none { 16 ≤ result → (result ≡ 65536) × (hex_digit byte ≡ None) }
-    ensures ascii { result < 16 → byte < 128 }
+    ensures value { result ≡ hex_code (hex_digit byte) }
+    ensures small { result ≤ 65536 }
 {
     DIGITS[byte as usize]
 }

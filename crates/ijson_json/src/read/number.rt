@@ -32,6 +32,7 @@ fn number_length(text: &str) -> usize
 }
 
 /// Splits the text after its leading bytes that can occur in a number.
+#[tactic(auto, using(crate::proofs::reading::Numbers::number_boundary, crate::proofs::scanning::UnescapedRuns::run_passes, crate::proofs::scanning::UnescapedRuns::run_stops))]
 fn split_number(text: &str) -> (&str, &str)
     ensures run { AllByRecursion (λ b. IsTrue (is_number_byte b)) result.0.now }
     ensures whole { text.now ≡ result.0.now ++ result.1.now }

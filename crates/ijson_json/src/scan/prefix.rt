@@ -7,6 +7,7 @@ ghost use Rattle.ijson_json.specs.private.Explains.{WordFault};
 use crate::fault::Fault;
 
 /// Splits off the first byte, if it is ASCII.
+#[tactic(auto, using(crate::proofs::scanning::CharBoundaries::after_first))]
 pub(crate) fn split_ascii(text: &str) -> Option<(u8, &str)>
     ensures cases { MatchOption result (Past (λ b. nat_lt b 128) text.now)
         (λ x. text.now ≡ x.0 ∷ x.1.now) }
@@ -21,6 +22,7 @@ pub(crate) fn split_ascii(text: &str) -> Option<(u8, &str)>
 }
 
 /// Strips `byte`, if the text begins with it.
+#[tactic(auto, using(crate::proofs::scanning::CharBoundaries::after_first))]
 pub(crate) fn strip_byte(text: &str, byte: u8) -> Option<&str>
     requires { byte < 128 }
     ensures { MatchOption result (Past (λ b. b == byte) text.now)

@@ -37,6 +37,7 @@ fn specials<const N: usize>(bytes: Simd<u8, N>) -> u64
 }
 
 /// Like `specials`, with a bit after them for the end, so no branch tests whether the bytes ended.
+#[tactic(auto, using(crate::proofs::scanning::SpecialMasks::end_marked))]
 fn specials_and_end<const N: usize>(bytes: Simd<u8, N>) -> u64
     requires { N < 64 }
     ensures { result ≡ mask_l (map (λ byte. not (is_unescaped byte)) bytes.entry) + 2 ^ N }
@@ -45,6 +46,7 @@ fn specials_and_end<const N: usize>(bytes: Simd<u8, N>) -> u64
 }
 
 /// Returns the end of the run from `start`, in N to 2 * N bytes, by testing the first and last N.
+#[tactic(auto, using(crate::proofs::scanning::SpecialMasks::run_in_two))]
 fn run_end_in_two<const N: usize>(bytes: &[u8], start: usize) -> usize
     requires { (N < 32) × (N ≤ length bytes.now) × (length bytes.now ≤ 2 * N) × (start ≤ length bytes.now) }
     ensures { result ≡ start + prefix_len is_unescaped (drop start bytes.now) }
@@ -60,6 +62,7 @@ fn run_end_in_two<const N: usize>(bytes: &[u8], start: usize) -> usize
 ///
 /// If there are at least 16 bytes in all, the last 16 are tested, and bits before `start` are shifted out. Bytes are tested one by one only
 /// if there are fewer than 4.
+#[tactic(auto, using(crate::proofs::scanning::SpecialMasks::run_in_last))]
 fn last_run_end(bytes: &[u8], start: usize) -> usize
     requires { (start ≤ length bytes.now) × (length bytes.now < start + 16) }
     ensures { result ≡ start + prefix_len is_unescaped (drop start bytes.now) }

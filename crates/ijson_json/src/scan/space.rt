@@ -46,6 +46,7 @@ pub(crate) fn skip_space(text: &str) -> &str
 }
 
 /// Like `skip_space`, for white space of possibly more than two bytes.
+#[tactic(auto, using(crate::proofs::scanning::WhiteSpace::run_skipped, crate::proofs::scanning::WhiteSpace::space_boundary))]
 #[inline(never)]
 fn skip_indent(text: &str) -> &str
     ensures { Skips text.now result.now }

@@ -1,6 +1,5 @@
 use Rattle.std.proofs.Common.{◌≡◌, ◌⊎◌, inl, inr, ◌+◌, ◌<◌, ℕ, List, Option, Err, ap, refl, ◌∙◌, arith}
 use Rattle.std.specs.Prelude.{◌↔◌, Result, IfOk, IfErr, IfSome, IsUtf8}
-use Rattle.std.proofs.lemmas.Grind.{common_steps}
 use Rattle.std.proofs.lemmas.Result.{err_from_is_err_and}
 use Rattle.ijson_json.specs.private.CompactErrorOfReadFault.{compact_error_of_read_fault}
 use Rattle.ijson_json.specs.declared.compacting.CompactError.{CompactError}
@@ -39,19 +38,3 @@ returns-in_err-bytes g c =
     let found = c.in_err-bytes.ensures in
     read_fault _ c.from_residual.result (g.R.Source.left c.args.input.now) (g.R.Source.failed c.args.input.now)
     (g.R.Source.failed c.read_all.new.input) c.in_err-bytes.field-0.0 (p.1 ∙ ap Err p.2) found.device found.memory
-
-pub returns-then-is_err : goal.returns-then-is_err
-returns-then-is_err g c = record {
-  text = tt;
-  read = ((λ q. cc), (λ l. absurd (omega (arith, l, c.in_ok-bytes.ensures.count))));
-  refused = grind (arith, common_steps);
-  error = inr (inl refl);
-}
-
-pub returns : goal.returns
-returns g c = record {
-  text = grind (arith, common_steps);
-  read = ((λ q. cc), (λ l. absurd (omega (arith, l, c.in_ok-bytes.ensures.count))));
-  refused = λ q. cc;
-  error = tt;
-}

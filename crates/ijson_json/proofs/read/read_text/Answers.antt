@@ -1,6 +1,4 @@
-use Rattle.std.proofs.Common.{sym, eq-eqb, arith, rules, subst}
-use Rattle.ijson_value.specs.Tree.{Tree}
-use Rattle.ijson_json.specs.Grammar.{Accepted}
+use Rattle.std.proofs.Common.{sym, eq-eqb, arith, rules}
 use Rattle.std.proofs.lemmas.Bool.{eqb-true}
 use Rattle.ijson_json.proofs.scanning.Prefixes.{not_both}
 use Rattle.ijson_json.proofs.reading.CacheContents.{adds_behind}
@@ -10,8 +8,7 @@ use Rattle.ijson_json.proofs.read.read_text.Goals as goal
 pub returns-then-is_empty-clause-read : goal.returns-then-is_empty-clause-read
 returns-then-is_empty-clause-read g c =
     let r = c.in-Ok.ensures.answer.read in
-    subst (λ (t : Tree). Accepted c.args.text.now t) (sym r.2)
-    (whole c.args.text.now c.skip_space-start.result.now c.in-Ok.rest.now c.skip_space-rest.result.now r.0 c.skip_space-start.ensures
+    rw r.2 (whole c.args.text.now c.skip_space-start.result.now c.in-Ok.rest.now c.skip_space-rest.result.now r.0 c.skip_space-start.ensures
     r.1 c.skip_space-rest.ensures (eqb-true _ _ (sym c.if-is_empty.ensures)))
 
 pub returns-clause-read : goal.returns-clause-read
@@ -28,19 +25,13 @@ returns-in-Err-clause-read g c =
     rw c.located.ensures (search (rules, refused))
 
 pub returns-then-is_empty-clause-cache : goal.returns-then-is_empty-clause-cache
-returns-then-is_empty-clause-cache g c = adds_behind c.args.text.now c.skip_space-start.ensures.space c.skip_space-start.result.now
-    c.args.cache.now c.read_value-read.new.cache c.skip_space-start.ensures.is c.read_value-read.ensures.cache
+returns-then-is_empty-clause-cache g c = adds_behind c.skip_space-start.ensures c.read_value-read.ensures.cache
 
 pub returns-clause-cache : goal.returns-clause-cache
-returns-clause-cache g c = adds_behind c.args.text.now c.skip_space-start.ensures.space c.skip_space-start.result.now
-    c.args.cache.now c.read_value-read.new.cache c.skip_space-start.ensures.is c.read_value-read.ensures.cache
+returns-clause-cache g c = adds_behind c.skip_space-start.ensures c.read_value-read.ensures.cache
 
 pub returns-in-Err-clause-cache : goal.returns-in-Err-clause-cache
-returns-in-Err-clause-cache g c = adds_behind c.args.text.now c.skip_space-start.ensures.space c.skip_space-start.result.now
-    c.args.cache.now
-    c.read_value-read.new.cache c.skip_space-start.ensures.is c.read_value-read.ensures.cache
+returns-in-Err-clause-cache g c = adds_behind c.skip_space-start.ensures c.read_value-read.ensures.cache
 
 pub returns-then-is_empty-clause-shared : goal.returns-then-is_empty-clause-shared
 returns-then-is_empty-clause-shared g c = c.in-Ok.ensures.answer.shared
-
--- given for speed: the default tactics take longer

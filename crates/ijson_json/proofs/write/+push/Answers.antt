@@ -24,5 +24,3 @@ push_members-loop-key-init t c =
       written = ap (λ l. string_bytes c.args.out.now ++ l)
           (sym (ap (λ ps. joined true (member_texts print ps)) all ∙ joined-members c.args.object.now.pairs));
     }
-
--- given for speed: the default tactics take longer

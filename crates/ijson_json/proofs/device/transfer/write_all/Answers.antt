@@ -19,9 +19,6 @@ loop-at-preserved g c =
       within = grind (arith, common_steps, written.bound);
     }
 
-pub returns-clause-count : goal.returns-clause-count
-returns-clause-count g c = c.loop-at.invariant.steady
-
 pub returns-clause-bytes : goal.returns-clause-bytes
 returns-clause-bytes g c =
     let text = c.args.text.now in

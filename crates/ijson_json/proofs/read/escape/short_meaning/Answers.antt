@@ -1,12 +1,11 @@
-use Rattle.std.proofs.Common.{◌≡◌, ℕ, ◌<◌, refl, sym, ◌∙◌, get_or}
+use Rattle.std.proofs.Common.{◌≡◌, ℕ, ◌<◌, true, eqb, refl, sym, ◌∙◌, get_or}
 use Rattle.ijson_json.specs.declared.read.escape.TheConstants.{MEANINGS}
-use Rattle.ijson_json.proofs.scanning.TableLookups.{agree_below, from_table}
+use Rattle.std.proofs.lemmas.Bool.{agree_below_at, eqb-true}
 use Rattle.ijson_json.proofs.reading.Escapes.{meaning_of, meaning_found, meaning_none}
 use Rattle.ijson_json.proofs.read.escape.short_meaning.Goals as goal
 
 in_table : (b : ℕ) → b < 128 → get_or MEANINGS b 0 ≡ meaning_of b
-unfolding agree_below
-in_table b h = from_table MEANINGS meaning_of b h refl
+in_table b h = eqb-true _ _ (agree_below_at (λ k. eqb (get_or MEANINGS k 0) (meaning_of k)) (λ k. true) 128 b refl h)
 
 pub returns-then-meaning-eq46-clause-value : goal.returns-then-meaning-eq46-clause-value
 returns-then-meaning-eq46-clause-value c = sym (meaning_none c.args.letter (sym (in_table c.args.letter c.requires)

@@ -1,6 +1,4 @@
 use Rattle.std.proofs.Common.{◌≡◌, ◌∷◌, sym}
-use Rattle.std.specs.Char.{encode_utf8}
-use Rattle.ijson_json.specs.private.StringReading.{CharacterAt, NoCharacter, NoEscape}
 use Rattle.ijson_json.proofs.reading.Escapes.{escape_found, escape_wide}
 use Rattle.ijson_json.proofs.scanning.Options.{weaken}
 use Rattle.ijson_json.proofs.read.escape.take_escape.Goals as goal

@@ -1,20 +1,9 @@
-use Rattle.std.proofs.Common.{true, refl, arith, subst, rules, ◌∙◌}
+use Rattle.std.proofs.Common.{true, refl, arith, subst, ◌∙◌}
 use Rattle.ijson_json.specs.private.Reading.{IsPastLimit}
 use Rattle.ijson_json.proofs.scanning.Prefixes.{not_both}
 use Rattle.ijson_json.proofs.reading.Numbers.{no_number, run_past_limit, front_past_limit, front_range}
 use Rattle.ijson_json.proofs.read.number.read_long.Goals as goal
 use Rattle.ijson_json.proofs.read.number.read_long.Goals.{in_default-via-in-Some+else-not-is_past_limit, in_default-via-in_default}
-
-pub returns-in-Ok : goal.returns-in-Ok
-returns-in-Ok c =
-    let s = c.split_number.ensures in
-    let n = c.in-Ok.number in (
-      record {
-        found = record { front = c.split_number.result.0.now; holds = search rules; is = s.whole };
-        stops = s.stops;
-      },
-      n.is_num.in_range,
-    )
 
 pub returns-in-Some : goal.returns-in-Some
 returns-in-Some c =
@@ -39,5 +28,3 @@ returns-in_default c =
             (w.if-not-is_past_limit.ensures.0 refl))
       ],
     )
-
--- given for speed: the default tactics take longer

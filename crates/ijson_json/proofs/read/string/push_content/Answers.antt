@@ -1,4 +1,4 @@
-use Rattle.std.proofs.Common.{[], List, ℕ, refl, sym, rules}
+use Rattle.std.proofs.Common.{[], List, ℕ, sym, rules}
 use Rattle.std.specs.String.{string_bytes}
 use Rattle.std.proofs.lemmas.List.{append-nil}
 use Rattle.ijson_json.proofs.scanning.Prefixes.{past_byte}

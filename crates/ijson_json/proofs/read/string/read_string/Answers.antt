@@ -1,4 +1,4 @@
-use Rattle.std.proofs.Common.{refl, arith}
+use Rattle.std.proofs.Common.{arith}
 use Rattle.std.proofs.lemmas.Result.{err_from_is_err_and}
 use Rattle.ijson_json.proofs.scanning.Prefixes.{past_byte}
 use Rattle.ijson_json.proofs.reading.StringContent.{string_found, no_quote, no_string}

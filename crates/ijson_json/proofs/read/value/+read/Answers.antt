@@ -1,23 +1,18 @@
-use Rattle.std.proofs.Common.{◌≡◌, ◌⊎◌, inl, inr, length, List, [], ◌∷◌, ◌++◌, ◌+◌, ℕ, ap, subst, sym, refl, ◌∙◌, arith, rules, map}
-use Rattle.std.specs.Prelude.{Result, Err, IsErrAnd}
+use Rattle.std.proofs.Common.{◌≡◌, ◌⊎◌, inl, inr, length, List, [], ◌∷◌, ◌++◌, ◌+◌, ℕ, ap, sym, refl, ◌∙◌, arith, rules, map}
+use Rattle.std.specs.Prelude.{Result, Err}
 use Rattle.std.specs.Borrow.{Bor}
 use Rattle.std.proofs.lemmas.Result.{err_from_is_err_and}
-use Rattle.ijson_table.specs.Store.{put_each}
 use Rattle.ijson_value.specs.Tree.{Tree, array, object, items_of, members_of}
 use Rattle.ijson_value.specs.WellFormed.{WellFormed, item_trees, pair_trees}
 use Rattle.ijson_value.specs.laws.MemberTrees.{pair_tree}
 use Rattle.ijson_string.specs.Cache.{Texts}
 use Rattle.ijson_json.specs.AddsOnlyRead.{AddsOnlyRead}
-use Rattle.ijson_json.specs.AreShared.{AreShared, MembersAreShared}
 use Rattle.ijson_json.specs.Limits.{max_depth}
 use Rattle.ijson_json.specs.declared.fault.Fault.{Fault}
 use Rattle.ijson_json.specs.declared.fault.Fault.TheVariants.{TooDeep, Memory}
-use Rattle.ijson_json.specs.declared.read.delimiter.Delimiter.{Delimiter}
 use Rattle.ijson_json.specs.declared.read.scratch.Scratch.{Scratch}
 use Rattle.ijson_json.specs.private.Explains.{Explains}
-use Rattle.ijson_json.specs.private.Delimiters.{DelimiterAt}
 use Rattle.ijson_json.specs.private.ReadsValue.{ReadsValue}
-use Rattle.ijson_json.proofs.scanning.Prefixes.{closes}
 use Rattle.ijson_json.proofs.grammar.ElementShapes.{items_shape, members_shape}
 use Rattle.ijson_json.proofs.reading.ArraysAndObjects.{arrays, objects}
 use Rattle.ijson_json.proofs.reading.CacheContents.{adds_none, adds_behind_key, shared_more}
@@ -94,8 +89,7 @@ read_array-returns-in-Some g t c = record {
   answer = record {
     read = (
       array (items_of []),
-      empty_read Tree items_shape arrays c.args.opened c.args.inside.now c.in-Some.behind.now (omega arith)
-          (closes 93 c.args.inside.now c.skip_space-rest.result.now c.in-Some.behind.now c.skip_space-rest.ensures c.in-Some.ensures),
+      empty_read Tree items_shape arrays c.args.opened c.args.inside.now _ _ (omega arith) c.skip_space-rest.ensures c.in-Some.ensures,
       ap (λ (v : WellFormed). v.tree) c.from.ensures ∙ ap (λ vs. array (item_trees vs)) c.new.ensures.items,
     );
     shared = search rules;
@@ -167,8 +161,8 @@ read_object-returns-in-Some g t c = record {
   answer = record {
     read = (
       object (members_of []),
-      empty_read (List ℕ × Tree) members_shape objects c.args.opened c.args.inside.now c.in-Some.behind.now (omega arith)
-          (closes 125 c.args.inside.now c.skip_space-rest.result.now c.in-Some.behind.now c.skip_space-rest.ensures c.in-Some.ensures),
+      empty_read (List ℕ × Tree) members_shape objects c.args.opened c.args.inside.now _ _ (omega arith) c.skip_space-rest.ensures
+          c.in-Some.ensures,
       ap (λ (v : WellFormed). v.tree) c.from.ensures ∙ ap (λ ps. object (pair_trees ps)) c.new.ensures.pairs,
     );
     shared = search rules;
@@ -249,5 +243,3 @@ read_object-returns-in-End g t c =
         members = whole.left;
       };
     }
-
--- given for speed: the default tactics take longer

@@ -63,5 +63,3 @@ loop-byte-preserved c =
           c.loop-byte.start split.whole byte.cases) (escaping_byte (escaping_run c.loop-byte.invariant.written _ _ split.whole split.run
           c.in_ok-push_str.ensures.bytes) c.in-Some.byte c.in-Some.field-0-1.now byte.cases c.in_ok-push_escape.ensures.written);
     }
-
--- given for speed: the default tactics take longer
