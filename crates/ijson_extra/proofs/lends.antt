@@ -1,4 +1,2 @@
-pub mod Countdown
 pub mod Mapped
 pub mod Recursion
-pub mod StepOn

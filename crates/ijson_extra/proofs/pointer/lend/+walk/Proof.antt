@@ -6,9 +6,9 @@ use Rattle.ijson_value.proofs.lends.Steps.{await, suffices, frame, enter, of_opd
 use Rattle.ijson_value.proofs.lends.Steps.{branches, skips, exec, returns, returns_within, alloc_all, pass_all, free_all, look_at, get}
 use Rattle.ijson_value.proofs.lends.Steps.{get_in, get_tag, through, sets, sets_last, lands_as, agg, env, usize, yes, no, shows, uint_vals}
 use Rattle.ijson_value.proofs.lends.Steps.{uint_Tells, RattleType, MutRef, Bor, mut_vals, mut_Tells, plain, mut_ref_to, nothing, heard}
-use Rattle.ijson_value.proofs.lends.Steps.{peeks, only, whole, vrt, live, calls_at, lasts, triple_of, Stays, walk_of, stay_dropped}
+use Rattle.ijson_value.proofs.lends.Steps.{peeks, only, whole, vrt, live, of_field, lasts, triple_of, Stays, walk_of, stay_dropped}
 use Rattle.ijson_value.proofs.lends.Steps.{Goes-dropped, Goes-spent_ref, ends_at, framed, follows}
-use Rattle.ijson_extra.proofs.lends.Recursion.{recursive}
+use Rattle.ijson_extra.proofs.lends.Recursion.{recursive, is_zero, not_zero, less_one, two_at_least, one_fewer, falls, number_made, step_on}
 use denote.Triple.Call.{calls_from}
 use borrow.Follows.Kept.{follows_itself}
 use types.Run.{switches}
@@ -34,14 +34,11 @@ use Rattle.ijson_extra.specs.Pointer.{written_tokens}
 use Rattle.ijson_extra.specs.private.Walked.{LendsWalked, tree_lent, node_tree, steps_of, walked, walked_with}
 use Rattle.ijson_extra.proofs.tokens.Walked.{none_first, further_found, further_with, further_left}
 use Rattle.ijson_extra.proofs.tokens.Options.{on_both}
-use Rattle.ijson_extra.proofs.lends.Countdown.{is_zero, not_zero, less_one, two_at_least, one_fewer, falls, number_made}
 use Rattle.ijson_value.proofs.lends.LentLaws.{value_found_laws}
-use Rattle.ijson_extra.proofs.lends.StepOn.{step_on}
 use Rattle.ijson_value.proofs.lends.LentOn.{then_such, so_none, none_so}
 use Rattle.ijson_value.proofs.lends.Variants.{by_option, none_out, Some-out}
 use Rattle.ijson_value.specs.contracts.value.IValue.{the_row as V}
 use Rattle.ijson_value.specs.contracts.value.Destructured.{the_row as N}
-use Rattle.ijson_value.proofs.lends.Steps.{of_field}
 use Rattle.ijson_extra.proofs.lends.Mapped.{finds, maps, no_need, opened_laws}
 use Rattle.ijson_value.specs.declared.value.Destructured.{Destructured}
 use Rattle.ijson_extra.proofs.pointer.lend.+walk.{statement}

@@ -1,10 +1,10 @@
 -- A caller that writes one step inside a value. Assumes `Logic`.
-use Rattle.ijson_value.proofs.lends.Steps.{◌≡◌, ℕ, List, [], ◌∷◌, refl, sym, ap, ◌∙◌, MutBor, proved, full_share, id⊢, Lft, ftrue, flft}
+use Rattle.ijson_value.proofs.lends.Steps.{◌≡◌, ℕ, List, [], ◌∷◌, refl, ap, ◌∙◌, MutBor, proved, full_share, id⊢, Lft, ftrue, flft}
 use Rattle.ijson_value.proofs.lends.Steps.{named, Val, vunit, emp, fact, fact_i, tables, ‵, raw, ◌⊛◌, ◌$◌, ◌∵◌, !, qed, done, move, keep}
-use Rattle.ijson_value.proofs.lends.Steps.{use0, use2, split, join, feq_i, suffices, frame, enter, of_opd, addr, unit_lit, stop, no_more}
+use Rattle.ijson_value.proofs.lends.Steps.{use0, split, join, feq_i, suffices, frame, enter, of_opd, addr, unit_lit, stop, no_more}
 use Rattle.ijson_value.proofs.lends.Steps.{and_then, returns, alloc_all, pass_all, free_all, look_at, get, through, sets, lands_as, env, no}
 use Rattle.ijson_value.proofs.lends.Steps.{RattleType, MutRef, mut_vals, mut_Tells, plain, nothing, heard, lasts, triple_of, Stays, walk_of}
-use Rattle.ijson_value.proofs.lends.Steps.{stay_dropped, stay_ref, Goes-dropped, Goes-ref, ends_at, framed, follows, says}
+use Rattle.ijson_value.proofs.lends.Steps.{stay_dropped, stay_ref, Goes-dropped, Goes-ref, ends_at, framed}
 use mir.MapTy.{inst_fn}
 use mir.Syntax.{a_type, dcons, dnil}
 use contract.BorrowLft.{◌⊑◌}

@@ -1,5 +1,5 @@
 -- A caller that writes to the value of a key. Assumes `Logic`.
-use Rattle.ijson_value.proofs.lends.Steps.{◌≡◌, ℕ, List, [], ◌∷◌, refl, sym, ap, ◌∙◌, MutBor, proved, full_share, id⊢, Lft, ftrue, flft}
+use Rattle.ijson_value.proofs.lends.Steps.{◌≡◌, ℕ, List, [], ◌∷◌, refl, ap, ◌∙◌, MutBor, proved, full_share, id⊢, Lft, ftrue, flft}
 use Rattle.ijson_value.proofs.lends.Steps.{named, Val, vunit, emp, fact, fact_i, tables, ‵, raw, ◌⊛◌, ◌$◌, ◌∵◌, !, qed, done, move, keep}
 use Rattle.ijson_value.proofs.lends.Steps.{use0, use2, split, join, feq_i, suffices, frame, enter, of_opd, addr, unit_lit, stop, no_more}
 use Rattle.ijson_value.proofs.lends.Steps.{and_then, returns, alloc_all, pass_all, free_all, look_at, get, through, sets, lands_as, env, no}
@@ -11,7 +11,9 @@ use denote.Follow.{follows_so}
 use contract.BorrowLft.{◌⊑◌}
 use denote.Param.{bounded}
 use denote.Param.Laws.{copied_copy, copied_laws, IsCopy}
-use Rattle.std.specs.Prelude.{Option, None, Some, true, IfSome, option_map}
+use Rattle.std.specs.Prelude.{Option, None, Some, true, IfSome, option_map, option_and_then, slice_get}
+use Rattle.std.proofs.lemmas.Option.{slice_get-get_or}
+use Rattle.ijson_table.proofs.pairs.PairsByKey.{position_within}
 use Rattle.std.specs.Option.{ghost_name_of}
 use Rattle.std.specs.contracts.option.Option.{the_row as OptionOf}
 use Rattle.std.specs.Map.Iter.{deref_pair_mut}
@@ -19,16 +21,15 @@ use borrow.Follows.Kept.{follows_itself}
 use denote.Ref.{Bor}
 use Rattle.ijson_table.specs.Store.{Store, at as place_of}
 use Rattle.ijson_value.specs.AtKey.{pair_at_key}
-use Rattle.ijson_value.specs.LendsAtKey.{with_key}
+use Rattle.ijson_value.specs.LendsAtKey.{with_found, with_key}
 use Rattle.ijson_value.specs.LendsPair.{LendsPairIf, pair_name}
-use Rattle.ijson_value.specs.Values.{boolean_value}
+use Rattle.ijson_value.specs.Values.{boolean_value, null_value}
 use Rattle.ijson_value.specs.WellFormed.{WellFormed}
 use Rattle.ijson_value.specs.contracts.object.map.IObject.{the_row as N}
 use Rattle.ijson_value.specs.contracts.value.IValue.{the_row as V}
 use Rattle.ijson_value.proofs.lends.Called.{lent}
 use Rattle.ijson_value.proofs.lends.LentLaws.{Pair, pair_found_laws, value_found_laws}
 use Rattle.ijson_value.proofs.lends.LentOn.{then_so}
-use Rattle.ijson_extra.proofs.test_lemmas.KeyMissing.{is_missing}
 use Rattle.ijson_extra.proofs.lends.Mapped.{finds, maps, no_need}
 use Rattle.ijson_extra.proofs.test_lemmas.LentPart.{Left, written_back}
 use Rattle.ijson_extra.specs.contracts.tests.lent.set_pair as f
@@ -38,6 +39,15 @@ use Rattle.ijson_value.specs.contracts.object.index.ObjectIndex.index_into_mut a
 use Rattle.ijson_value.proofs.object.index.ObjectIndex.index_into_mut.Met as g-thm
 use Rattle.ijson_extra.specs.contracts.tests.lent.put_entry as h
 use Rattle.ijson_extra.proofs.tests.lent.put_entry.Met as h-thm
+
+-- an object without a key
+is_missing : (o : Store WellFormed) (key : List ℕ) (w : WellFormed) (m : Option ℕ) → place_of o.pairs key ≡ m
+    → None ≡ option_and_then (slice_get o.pairs) m → o ≡ with_found o m w
+is_missing o key w None e none = refl
+is_missing o key w (Some i) e none = absurd (no_pair (none ∙ slice_get-get_or o.pairs i ([], null_value) (position_within o.pairs key i e)))
+  where
+    no_pair : {x : List ℕ × WellFormed} → None ≡ Some x → ⊥
+    no_pair e = cc
 
 abbrev Entry : Type 0
 Entry = Option (Bor (List ℕ) × MutBor WellFormed)
