@@ -5,7 +5,6 @@ use Rattle.std.proofs.lemmas.Bool.Decides.{nat_tests}
 use Rattle.std.proofs.lemmas.List.Elements.{All-get_or, All-from_get_or}
 use Rattle.std.specs.List.{All}
 use Rattle.ijson_table.specs.declared.slot.Slot.{Slot}
-use Rattle.ijson_table.specs.private.Closing.{closed}
 use Rattle.ijson_table.specs.private.HomeOrder.{AreInHomeOrder}
 use Rattle.ijson_table.specs.private.KeptHash.{narrow_slots, kept}
 use Rattle.ijson_table.specs.private.Narrow.{Fits, MayHold}
@@ -28,10 +27,6 @@ pub fits_at : (n : ℕ) (slot : Slot) (i : ℕ) → position_in slot ≡ Some i 
     → (n ≤ narrow_slots → slot.hash < 65536)
     → Fits n slot
 fits_at n slot i at position hash few = (omega (arith, code-of slot.code i at, position few), hash few)
-
--- a slot still fits after an earlier index is removed
-pub fits-closed : (n gone : ℕ) (slot : Slot) → Fits n slot → Fits n (closed gone slot)
-fits-closed n gone slot fits few = (grind (arith, nat_tests, (fits few).0), (fits few).1)
 
 -- among few slots, the kept part of a hash is less than 256 times their number
 kept-within : (n h : ℕ) → n ≤ narrow_slots → 0 < n → kept n h < n * 256

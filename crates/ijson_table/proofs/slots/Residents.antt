@@ -12,10 +12,6 @@ use Rattle.ijson_table.specs.Slots.{resident, times}
 pub one_if-same : (i : ℕ) → one_if i (Some i) ≡ 1
 one_if-same i = grind (arith, nat_tests)
 
--- and not at that of another
-pub one_if-other : (i j : ℕ) → i ≢ j → one_if i (Some j) ≡ 0
-one_if-other i j ne = grind (arith, nat_tests)
-
 -- a slot with this index counts one
 one_if-at : (i : ℕ) (o : Option ℕ) → o ≡ Some i → one_if i o ≡ 1
 one_if-at i o e = ap (one_if i) e ∙ one_if-same i

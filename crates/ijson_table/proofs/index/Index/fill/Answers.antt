@@ -6,7 +6,7 @@ use Rattle.ijson_table.specs.declared.slot.Slot.{Slot}
 use Rattle.ijson_table.specs.private.HashIndex.{HashIndex}
 use Rattle.ijson_table.specs.private.HomeOrder.{home_in, AreInHomeOrder, CanBePlaced, HaveRoom, rotated}
 use Rattle.ijson_table.specs.private.Narrow.{Fits}
-use Rattle.ijson_table.specs.private.SlotHashes.{blank, positions}
+use Rattle.ijson_table.specs.private.SlotHashes.{blank}
 use Rattle.ijson_table.proofs.filling.NoneEmpty.{none_empty}
 use Rattle.ijson_table.proofs.filling.Rotation.{rotated_room}
 use Rattle.ijson_table.proofs.slots.HashesInSlots.{positions-length}

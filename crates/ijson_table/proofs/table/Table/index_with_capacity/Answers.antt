@@ -1,13 +1,6 @@
-use Rattle.std.proofs.Common.{◌≡◌, ℕ, ◌+◌, ◌-◌, ◌*◌, ◌≤◌, ◌^◌, List, length, map, take, arith, ap, ap₂, sym, ◌∙◌}
+use Rattle.std.proofs.Common.{ℕ, ◌+◌, ◌-◌, ◌*◌, ◌≤◌, ◌^◌, length, arith, ap, ◌∙◌}
 use Rattle.std.proofs.Math.Nat.{mul-le-mul_right}
-use Rattle.std.proofs.lemmas.List.{take_all}
 use Rattle.ijson_table.specs.BuildBound.{looks_a_pair}
-use Rattle.ijson_table.specs.Crowd.{slot_count}
-use Rattle.ijson_table.specs.Store.{keys_of}
-use Rattle.ijson_table.specs.private.HashIndex.{HashIndex}
-use Rattle.ijson_table.specs.private.IsPlaced.{IsPlaced}
-use Rattle.ijson_table.specs.private.KeptHash.{kept_hash}
-use Rattle.ijson_table.specs.private.Room.{HasRoom}
 use Rattle.ijson_table.proofs.pairs.Shown.{pairs_shown}
 use Rattle.ijson_table.proofs.table.Table.index_with_capacity.Goals.{After-fill_sorted}
 use Rattle.ijson_table.proofs.table.Table.index_with_capacity.Goals as goal

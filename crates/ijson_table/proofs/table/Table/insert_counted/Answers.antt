@@ -1,4 +1,4 @@
-use Rattle.std.proofs.Common.{◌<◌, ◌-◌, length, arith, ap, refl, sym, ◌∙◌, subst}
+use Rattle.std.proofs.Common.{◌<◌, length, arith, ap, refl, sym, ◌∙◌, subst}
 use Rattle.std.specs.Prelude.{vec_capacity}
 use Rattle.ijson_table.specs.Growth.{Grown}
 use Rattle.ijson_table.specs.Placed.{Placed}
