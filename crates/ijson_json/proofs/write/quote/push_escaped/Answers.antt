@@ -1,4 +1,4 @@
-use Rattle.std.proofs.Common.{◌≡◌, ◌++◌, ◌∷◌, [], List, ℕ, drop, append-nil, length, length-append, append_assoc, refl, sym, ap, ap₂, ◌∙◌, ◌+◌}
+use Rattle.std.proofs.Common.{◌≡◌, ◌++◌, ◌∷◌, [], List, ℕ, drop, append-nil, length, length-append, length-drop, append_assoc, refl, sym, ap, ap₂, ◌∙◌, ◌+◌, arith}
 use Rattle.std.specs.String.{string_bytes}
 use Rattle.std.proofs.Math.Seq.{drop-append_seam}
 use Rattle.std.proofs.lemmas.List.{drop-drop}
@@ -63,3 +63,12 @@ loop-byte-preserved c =
           c.loop-byte.start split.whole byte.cases) (escaping_byte (escaping_run c.loop-byte.invariant.written _ _ split.whole split.run
           c.in_ok-push_str.ensures.bytes) c.in-Some.byte c.in-Some.field-0-1.now byte.cases c.in_ok-push_escape.ensures.written);
     }
+
+pub loop-byte-smaller : goal.loop-byte-smaller
+loop-byte-smaller c = omega (
+  arith,
+  length-drop c.loop-byte.start c.args.text.now,
+  ap length c.split_run.ensures.whole,
+  length-append c.split_run.result.0.now c.split_run.result.1.now,
+  ap length c.in-Some.ensures.cases,
+)
