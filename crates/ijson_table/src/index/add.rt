@@ -21,6 +21,7 @@ pub const STEPS_A_PAIR: usize = 32;
 /// Inserts the indices of pairs into empty slots, up to a duplicate key or a bound on the steps.
 ///
 /// Returns the number of indices inserted. `steps` counts each slot inspected and each slot written.
+#[inline(always)]
 pub fn add_new_keys<V, H: KeyHash>(
     pairs: &[(IString, V)],
     index: &mut Index,

@@ -128,6 +128,7 @@ impl<V: Drop, H: KeyHash> Table<V, H> {
 ///
 /// Returns the number of keys that were inserted and the number of pairs that were read. The replaced pairs are between
 /// them and those left.
+#[inline(always)]
 fn put_in_place<V: Drop, H: KeyHash>(
     pairs: &mut [(IString, V)],
     index: &mut Index,
