@@ -75,14 +75,7 @@ fn add_each(mut hash: u64, words: &[u8]) -> u64
     ensures { result ≡ fold fold_word hash words.now }
 {
     for word in words {
-        hash = add_word(hash, u64::from(*word));
+        hash = hash.wrapping_mul(PRIME).wrapping_add(u64::from(*word));
     }
     hash
-}
-
-/// Folds one more word.
-fn add_word(hash: u64, word: u64) -> u64
-    ensures { result ≡ fold_word hash word }
-{
-    hash.wrapping_mul(PRIME).wrapping_add(word)
 }

@@ -11,7 +11,7 @@ ghost use Rattle.ijson_table.specs.private.Room.{IsResized};
 
 use crate::growth::{grown_capacity, limited};
 use crate::store::{PairStore, RefusedPair, ReserveError, fmt_pairs, insert};
-use crate::vec::{list_with_room, set_room};
+use crate::vec::set_room;
 use ijson_string::IString;
 use std::alloc::{AllocError, Global};
 use std::fmt;
@@ -70,7 +70,7 @@ impl<V> LinearPairs<V> {
     {
         let capacity = limited(capacity)?;
         Ok(LinearPairs {
-            pairs: list_with_room(alloc, capacity)?,
+            pairs: Vec::with_capacity(alloc, capacity)?,
         })
     }
 

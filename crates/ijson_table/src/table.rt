@@ -27,7 +27,7 @@ use crate::index::places::{Places, locate};
 use crate::index::probe::{Probed, has_key};
 use crate::slot::{Modulus, Seen};
 use crate::store::{PairStore, RefusedPair, ReserveError, fmt_pairs};
-use crate::vec::{list_with_room, set_room, tighten};
+use crate::vec::{set_room, tighten};
 use ijson_number::Looks;
 use ijson_string::IString;
 use std::alloc::{AllocError, Global};
@@ -84,7 +84,7 @@ impl<V: Drop, H: KeyHash> Table<V, H> {
         ensures none { capacity ≡ 0 → IsOk result }
     {
         let capacity = limited(capacity)?;
-        let pairs = list_with_room(alloc, capacity)?;
+        let pairs = Vec::with_capacity(alloc, capacity)?;
         let index = Index::with_slots(alloc, slots_for(capacity))?;
         Ok(Table {
             pairs,

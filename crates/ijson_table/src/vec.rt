@@ -1,24 +1,10 @@
 //! Lists with an exact capacity.
 
-ghost use Rattle.std.specs.Prelude.{◌≡◌, ◌<◌, ◌≤◌, [], ◌++◌, length, take, drop, vec_capacity, IfOk, OnOk, OnErr};
+ghost use Rattle.std.specs.Prelude.{◌≡◌, ◌<◌, ◌≤◌, ◌++◌, length, take, drop, vec_capacity, OnOk, OnErr};
 ghost use Rattle.ijson_table.specs.private.Room.{IsResized};
 
 use std::alloc::{AllocError, Global};
 use std::mem;
-
-/// Creates an empty list of capacity `room`.
-///
-/// A capacity of 0 does not allocate.
-pub fn list_with_room<T>(alloc: Global, room: usize) -> Result<Vec<T>, AllocError>
-    ensures empty { IfOk result (λ list. list.items ≡ []) }
-    ensures room { IfOk result (λ list. vec_capacity list ≡ room) }
-    ensures refused { OnErr result (0 < room) }
-{
-    if room == 0 {
-        return Ok(Vec::new(alloc));
-    }
-    Vec::with_capacity(alloc, room)
-}
 
 /// Moves the items to a list with no spare capacity.
 ///
@@ -29,7 +15,7 @@ pub fn fit<T: Drop>(alloc: Global, list: &mut Vec<T>) -> Result<(), AllocError>
     ensures refused { OnErr result
         ((0 < length list.old.items) × (vec_capacity list.new ≡ vec_capacity list.old)) }
 {
-    let fitted = list_with_room(alloc, list.len())?;
+    let fitted = Vec::with_capacity(alloc, list.len())?;
     for item in mem::replace(list, fitted) {
         list.push_reserved(item);
     }

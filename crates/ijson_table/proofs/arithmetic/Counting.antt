@@ -45,7 +45,3 @@ greatest-at (suc k) f s h = elim (eqb s k) as (λ b. eqb s k ≡ b → f s ≤ m
   | true ↦ λ e. let same : s ≡ k = grind (arith, nat_tests) in omega (arith, ap f same)
   | false ↦ λ e. let lt : s < k = grind (arith, nat_tests) in omega (arith, greatest-at k f s lt)
 ] refl
-
--- one step closer to a bound, less remains
-pub less_left : (n m : ℕ) → n < m → m - (n + 1) < m - n
-less_left n m below = omega arith

@@ -5,7 +5,7 @@ ghost use Rattle.std.specs.List.{All};
 ghost use Rattle.ijson_table.specs.Growth.{capacity_limit};
 ghost use Rattle.ijson_table.specs.Slots.{times, IsOrdered};
 ghost use Rattle.ijson_table.specs.Store.{keys_of};
-ghost use Rattle.ijson_table.specs.private.HomeOrder.{behind, home_before, home_in, AreInHomeOrder, CanBePlaced};
+ghost use Rattle.ijson_table.specs.private.HomeOrder.{home_before, home_in, AreInHomeOrder, CanBePlaced};
 ghost use Rattle.ijson_table.specs.private.KeptHash.{kept, kept_hash};
 ghost use Rattle.ijson_table.specs.private.Narrow.{Fits};
 ghost use Rattle.ijson_table.specs.private.Probe.{onward};
@@ -90,19 +90,12 @@ fn place_sorted(slots: &mut Slots, sorted: &[Slot], modulus: Modulus, start: usi
     let mut next = 0;
     for _step in 0..sorted.len() {
         let entry = sorted[index];
-        let steps = next.max(steps_to_home(entry, modulus, first));
+        let home = modulus.home_of_hash(entry.hash());
+        let steps = next.max(distance_between(modulus.count, first, home));
         slots.set(steps_on(slots.len(), first, steps), entry);
         next = steps + 1;
         index = next_slot(sorted.len(), index);
     }
-}
-
-/// Returns the number of slots from `from` to the home slot of an entry, wrapping around.
-fn steps_to_home(entry: Slot, modulus: Modulus, from: usize) -> usize
-    requires { from < modulus.count }
-    ensures { result ≡ behind modulus.count from entry }
-{
-    distance_between(modulus.count, from, modulus.home_of_hash(entry.hash()))
 }
 
 /// Returns the slot `steps` after `from`, wrapping around.

@@ -1,6 +1,6 @@
 //! `shift_forward`: the forward shift of residents, to insert one more.
 
-ghost use Rattle.std.specs.Prelude.{ℕ, ◌+◌, ◌<◌, ◌≤◌, List, length, map, take};
+ghost use Rattle.std.specs.Prelude.{ℕ, ◌+◌, ◌<◌, ◌≤◌, List, length, map};
 ghost use Rattle.ijson_table.specs.private.Insertion.{IsPut, MayPut};
 
 use crate::index::probe::next_slot;
@@ -35,23 +35,4 @@ pub fn shift_forward<S: StoredSlot + Copy + Drop>(
         entry = was;
         slot = next_slot(count, slot);
     }
-}
-
-/// Like `shift_forward`, on the first `count` slots.
-#[inline(always)]
-pub fn shift_in_front<S: StoredSlot + Copy + Drop>(
-    slots: &mut [S],
-    count: usize,
-    from: usize,
-    position: usize,
-    hash: u64,
-) -> usize
-    requires within { count ≤ length slots.old }
-    requires may { (hashes : List ℕ) × MayPut hashes (map S.stands_for (take count slots.old)) position hash from }
-    requires code { position + 1 < S.code_limit }
-    requires hash { hash < S.hash_limit }
-    ensures { (hashes : List ℕ) → MayPut hashes (map S.stands_for (take count slots.old)) position hash from
-        → IsPut hashes (map S.stands_for (take count slots.old)) position from result (map S.stands_for (take count slots.new)) }
-{
-    shift_forward(&mut slots[..count], from, position, hash)
 }

@@ -1,6 +1,6 @@
 //! `Slots`: the slots of a table, in the smallest representation that fits.
 
-ghost use Rattle.std.specs.Prelude.{◌≡◌, ℕ, ◌<◌, ◌≤◌, List, [], length, set, get_or, replicate, vec_capacity, None, IfOk, OnErr, map, MatchOption};
+ghost use Rattle.std.specs.Prelude.{◌≡◌, ℕ, ◌<◌, ◌≤◌, List, [], length, set, get_or, None, IfOk, OnErr, map, MatchOption};
 ghost use Rattle.std.specs.List.{All};
 ghost use Rattle.ijson_table.specs.declared.index.slots.TheConstants.{FEW_SLOTS};
 ghost use Rattle.ijson_table.specs.private.Insertion.{IsPut, MayPut};
@@ -8,11 +8,10 @@ ghost use Rattle.ijson_table.specs.private.KeptHash.{narrow_slots};
 ghost use Rattle.ijson_table.specs.private.Narrow.{Fits, MayHold, widened};
 ghost use Rattle.ijson_table.specs.private.SlotHashes.{blank, position_in};
 
-use crate::index::forward::{shift_forward, shift_in_front};
+use crate::index::forward::shift_forward;
 use crate::slot::narrow::NarrowSlot;
 use crate::slot::stored::StoredSlot;
 use crate::slot::{NARROW_SLOTS, Slot};
-use crate::vec::{list_with_room, tighten};
 use std::alloc::{AllocError, Global};
 use std::marker::Model;
 use std::mem::size_of;
@@ -30,8 +29,7 @@ pub struct Slots {
 
 /// The slots, in a representation by their number.
 ///
-/// Up to 10 are inline, up to 158 are a list of three bytes each, and more are a list of 16 bytes each. A list has no
-/// spare capacity.
+/// Up to 10 are inline, up to 158 are a list of three bytes each, and more are a list of 16 bytes each.
 #[derive(Drop)]
 enum Stored {
     Few(FewSlots),
@@ -44,10 +42,7 @@ enum Stored {
 struct FewSlots {
     count: u8,
     slots: [NarrowSlot; FEW_SLOTS],
-    ghost within: { count ≤ FEW_SLOTS },
 }
-
-const _: () = prove!(size_of::<FewSlots>() == 31);
 
 const _: () = prove!(size_of::<Slots>() == 32);
 
@@ -70,7 +65,10 @@ impl Slots {
         ensures { result ≡ [] }
     {
         Slots {
-            stored: Stored::Few(FewSlots::empty(0)),
+            stored: Stored::Few(FewSlots {
+                count: 0,
+                slots: [NarrowSlot::EMPTY; FEW_SLOTS],
+            }),
         }
     }
 
@@ -81,11 +79,14 @@ impl Slots {
         ensures refused { OnErr result (0 < count) }
     {
         let stored = if count <= FEW_SLOTS {
-            Stored::Few(FewSlots::empty(count))
+            Stored::Few(FewSlots {
+                count: count as u8,
+                slots: [NarrowSlot::EMPTY; FEW_SLOTS],
+            })
         } else if count <= NARROW_SLOTS {
-            Stored::Narrow(repeated(alloc, NarrowSlot::empty(), count)?)
+            Stored::Narrow(vec![in alloc; NarrowSlot::EMPTY; count]?)
         } else {
-            Stored::Wide(repeated(alloc, Slot::empty(), count)?)
+            Stored::Wide(vec![in alloc; Slot::empty(); count]?)
         };
         Ok(Slots { stored })
     }
@@ -96,7 +97,7 @@ impl Slots {
         ensures { result ≡ length self.now }
     {
         match &self.stored {
-            Stored::Few(few) => few.len(),
+            Stored::Few(few) => usize::from(few.count),
             Stored::Narrow(slots) => slots.len(),
             Stored::Wide(slots) => slots.len(),
         }
@@ -122,7 +123,7 @@ impl Slots {
         ensures { MatchOption result (narrow_slots < length self.now) (λ slots. map widened slots.now ≡ self.now) }
     {
         match &self.stored {
-            Stored::Few(few) => Some(&few.slots[..few.len()]),
+            Stored::Few(few) => Some(&few.slots[..usize::from(few.count)]),
             Stored::Narrow(slots) => Some(slots),
             Stored::Wide(_) => None,
         }
@@ -153,9 +154,8 @@ impl Slots {
         ensures { IsPut hashes self.old position from result self.new }
     {
         match &mut self.stored {
-            Stored::Few(few) => shift_in_front(
-                &mut few.slots,
-                usize::from(few.count),
+            Stored::Few(few) => shift_forward(
+                &mut few.slots[..usize::from(few.count)],
                 from,
                 position,
                 hash,
@@ -183,8 +183,8 @@ impl Slots {
         ensures count { length self.new ≡ length self.old }
     {
         match &mut self.stored {
-            Stored::Few(few) => few.slots.fill(NarrowSlot::empty()),
-            Stored::Narrow(slots) => slots.fill(NarrowSlot::empty()),
+            Stored::Few(few) => few.slots.fill(NarrowSlot::EMPTY),
+            Stored::Narrow(slots) => slots.fill(NarrowSlot::EMPTY),
             Stored::Wide(slots) => slots.fill(Slot::empty()),
         }
     }
@@ -196,57 +196,9 @@ impl Slots {
     {
         let stored = match &self.stored {
             Stored::Few(few) => Stored::Few(*few),
-            Stored::Narrow(slots) => Stored::Narrow(exact_copy(alloc, slots)?),
-            Stored::Wide(slots) => Stored::Wide(exact_copy(alloc, slots)?),
+            Stored::Narrow(slots) => Stored::Narrow(Vec::from_slice(alloc, slots)?),
+            Stored::Wide(slots) => Stored::Wide(Vec::from_slice(alloc, slots)?),
         };
         Ok(Slots { stored })
     }
-}
-
-impl FewSlots {
-    ghost use Rattle.ijson_table.specs.private.NarrowSlots.{few_items};
-
-    /// Creates `count` empty slots.
-    fn empty(count: usize) -> FewSlots
-        requires { count ≤ FEW_SLOTS }
-        ensures empty { All (λ slot. position_in slot ≡ None) (few_items result) }
-        ensures count { length (few_items result) ≡ count }
-    {
-        FewSlots {
-            count: count as u8,
-            slots: [NarrowSlot::empty(); FEW_SLOTS],
-        }
-    }
-
-    /// Returns the number of slots.
-    #[inline(always)]
-    fn len(&self) -> usize
-        ensures { result ≡ length (few_items self.now) }
-    {
-        usize::from(self.count)
-    }
-}
-
-/// Returns a list of `count` copies of `item`, with no spare capacity.
-fn repeated<T: Copy + Drop>(alloc: Global, item: T, count: usize) -> Result<Vec<T>, AllocError>
-    ensures items { IfOk result (λ list. list.items ≡ replicate count item) }
-    ensures room { IfOk result (λ list. vec_capacity list ≡ count) }
-    ensures refused { OnErr result (0 < count) }
-{
-    let mut list = list_with_room(alloc, count)?;
-    for _step in 0..count {
-        list.push_reserved(item);
-    }
-    Ok(list)
-}
-
-/// Returns a copy of `items`, with no spare capacity.
-fn exact_copy<T: Copy + Drop>(alloc: Global, items: &[T]) -> Result<Vec<T>, AllocError>
-    requires { 0 < length items.now }
-    ensures items { IfOk result (λ list. list.items ≡ items.now) }
-    ensures room { IfOk result (λ list. vec_capacity list ≡ length items.now) }
-{
-    let mut list = Vec::from_slice(alloc, items)?;
-    tighten(alloc, &mut list)?;
-    Ok(list)
 }

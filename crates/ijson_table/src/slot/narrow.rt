@@ -1,8 +1,6 @@
 //! `NarrowSlot`: a slot of three bytes, for a table with few slots.
 
-ghost use Rattle.std.specs.Prelude.{◌≡◌};
 ghost use Rattle.ijson_table.specs.private.Narrow.{widened};
-ghost use Rattle.ijson_table.specs.private.SlotHashes.{blank};
 
 use crate::slot::Slot;
 use crate::slot::stored::StoredSlot;
@@ -18,17 +16,12 @@ pub struct NarrowSlot {
 }
 
 impl NarrowSlot {
-    /// Returns the empty slot.
-    #[inline(always)]
-    pub fn empty() -> NarrowSlot
-        ensures { widened result ≡ blank }
-    {
-        NarrowSlot {
-            code: 0,
-            low: 0,
-            high: 0,
-        }
-    }
+    /// The empty slot.
+    pub const EMPTY: NarrowSlot = NarrowSlot {
+        code: 0,
+        low: 0,
+        high: 0,
+    };
 }
 
 /// The representation in three bytes.

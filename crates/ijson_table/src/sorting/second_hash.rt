@@ -1,8 +1,5 @@
 //! `SecondHash`: the hash by which pairs are sorted if many keys collide.
 
-ghost use Rattle.std.specs.Prelude.{◌≡◌};
-ghost use Rattle.ijson_table.specs.private.SecondHash.{second_word};
-
 use crate::hash::KeyHash;
 
 /// A fold of the bytes of a string with another factor than that of `FixedHash`.
@@ -22,9 +19,9 @@ impl KeyHash for SecondHash {
     ghost hash_of = { λ text. second_hash text };
 
     fn hash(text: &str) -> u64 {
-        let mut hash = 0;
+        let mut hash: u64 = 0;
         for byte in text.as_bytes() {
-            hash = add_word(hash, u64::from(*byte));
+            hash = hash.wrapping_mul(FACTOR).wrapping_add(u64::from(*byte));
         }
         hash
     }
@@ -34,10 +31,3 @@ impl KeyHash for SecondHash {
 ///
 /// It is a factor of linear congruential generators (Knuth's MMIX).
 const FACTOR: u64 = 6_364_136_223_846_793_005;
-
-/// Folds one more word.
-fn add_word(hash: u64, word: u64) -> u64
-    ensures { result ≡ second_word hash word }
-{
-    hash.wrapping_mul(FACTOR).wrapping_add(word)
-}

@@ -1,10 +1,11 @@
-use Rattle.std.proofs.Common.{◌≡◌, ◌+◌, ◌<◌, ℕ, List, length, get_or, set, max, Some, arith, refl, ap, ap₂, sym, ◌∙◌, subst}
+use Rattle.std.proofs.Common.{◌≡◌, ◌+◌, ◌%◌, ◌<◌, ℕ, List, length, get_or, set, max, Some, arith, refl, ap, ap₂, sym, ◌∙◌, subst}
 use Rattle.std.proofs.lemmas.List.{length-set, take_all}
 use Rattle.std.proofs.lemmas.List.Elements.{All-get_or}
 use Rattle.std.proofs.lemmas.Bool.Decides.{nat_tests}
 use Rattle.std.specs.Ordering.{nat_cmp, ord_max}
 use Rattle.std.specs.Prelude.{◌≢◌, None}
 use Rattle.ijson_table.specs.declared.slot.Slot.{Slot}
+use Rattle.ijson_table.specs.Crowd.{distance}
 use Rattle.ijson_table.specs.Slots.{after, times}
 use Rattle.ijson_table.specs.private.HomeOrder.{rotated, behind, HaveRoom, CanBePlaced}
 use Rattle.ijson_table.specs.private.Narrow.{Fits}
@@ -15,6 +16,7 @@ use Rattle.ijson_table.proofs.filling.PlacedSorted.{PlacedSorted, placed_none, p
 use Rattle.ijson_table.proofs.filling.Rotation.{length-rotated, rotated-at, times-rotated}
 use Rattle.ijson_table.proofs.slots.HashesInSlots.{positions-length, positions-put, all_empty, hashes-at, hashes-set, hashes-none}
 use Rattle.ijson_table.proofs.slots.Residents.{some_position}
+use Rattle.ijson_table.proofs.index.fill.place_sorted.Goals.{After-max-steps}
 use Rattle.ijson_table.proofs.index.fill.place_sorted.Goals as goal
 
 -- the entries fit the current slots
@@ -75,23 +77,26 @@ loop-step-init g c =
       count = refl;
     }
 
+-- the steps to the home slot of the entry
+steps_home : (g : _) (c : After-max-steps g) → c.distance_between.result
+    ≡ behind c.args.modulus.count c.args.first (get_or c.args.sorted.now c.loop-step.index blank)
+steps_home g c = c.distance_between.ensures
+    ∙ ap (distance c.args.modulus.count c.args.first) (c.home_of_hash-home.ensures.value ∙ ap (λ h. h % c.args.modulus.count) c.hash.ensures)
+
+-- there is such a slot
+inside : (g : _) (c : After-max-steps g) → c.max-steps.result < length c.loop-step.slots
+inside g c = inside_now g.hashes (length c.args.slots.now) c.args.start c.args.first c.loop-step.next c.loop-step._step c.loop-step.index
+    c.distance_between.result c.args.modulus.count c.max-steps.result c.args.sorted.now c.loop-step.slots c.requires.1.1.0
+    c.loop-step.invariant.count c.loop-step.invariant.so_far c.loop-step-test.true c.loop-step.invariant.index c.requires.0
+    (steps_home g c) c.max-steps.ensures
+
 pub steps_on-requires-clause-steps : goal.steps_on-requires-clause-steps
-steps_on-requires-clause-steps g c = omega (
-  arith,
-  c.len.ensures,
-  inside_now g.hashes (length c.args.slots.now) c.args.start c.args.first c.loop-step.next c.loop-step._step c.loop-step.index
-      c.steps_to_home.result c.args.modulus.count c.max-steps.result c.args.sorted.now c.loop-step.slots c.requires.1.1.0
-      c.loop-step.invariant.count c.loop-step.invariant.so_far c.loop-step-test.true c.loop-step.invariant.index c.requires.0
-      c.steps_to_home.ensures c.max-steps.ensures,
-)
+steps_on-requires-clause-steps g c =
+    omega (arith, c.len.ensures, inside g (goal.at.steps_on-requires-clause-steps g c).After-max-steps)
 
 pub overflow_add-next : goal.overflow_add-next
 overflow_add-next g c =
-    let inside : c.max-steps.result < length c.loop-step.slots =
-    inside_now g.hashes (length c.args.slots.now) c.args.start c.args.first c.loop-step.next c.loop-step._step c.loop-step.index
-    c.steps_to_home.result c.args.modulus.count c.max-steps.result c.args.sorted.now c.loop-step.slots c.requires.1.1.0
-    c.loop-step.invariant.count c.loop-step.invariant.so_far c.loop-step-test.true c.loop-step.invariant.index c.requires.0
-    c.steps_to_home.ensures c.max-steps.ensures in
+    let within = inside g (goal.at.overflow_add-next g c).After-max-steps in
     omega arith
 
 pub loop-step-preserved : goal.loop-step-preserved
@@ -118,8 +123,8 @@ loop-step-preserved g c =
     (room_now hashes (length c.args.slots.now) start first sorted slots can (omega (arith, c.loop-step.invariant.count)))
     c.loop-step.invariant.so_far (omega (arith, more, length-rotated start sorted (omega (arith, can.starts))))
     (omega (arith, can.within, c.loop-step.invariant.count, positions-length slots)) (subst (HasHash hashes) (sym same) has)
-    (ap position_in same ∙ who.1) steps (steps_now first step index start c.loop-step.next c.steps_to_home.result c.args.modulus.count steps
-    sorted slots same (omega (arith, c.requires.0, c.loop-step.invariant.count)) c.steps_to_home.ensures c.max-steps.ensures) in
+    (ap position_in same ∙ who.1) steps (steps_now first step index start c.loop-step.next c.distance_between.result c.args.modulus.count steps
+    sorted slots same (omega (arith, c.requires.0, c.loop-step.invariant.count)) (steps_home g (goal.at.loop-step-preserved g c).After-max-steps) c.max-steps.ensures) in
     let there : onward (length (positions slots)) first steps ≡ c.steps_on.result =
     ap (λ m. onward m first steps) (positions-length slots ∙ sym c.len.ensures) ∙ sym c.steps_on.ensures.slot in
     let now : c.set.new.self ≡ set slots c.steps_on.result entry =

@@ -1,4 +1,4 @@
-use Rattle.std.proofs.Common.{ap, sym, subst, length}
+use Rattle.std.proofs.Common.{ap, refl, sym, subst, length}
 use Rattle.ijson_table.specs.declared.index.slots.Slots.TheInside.{Inside}
 use Rattle.ijson_table.specs.private.NarrowSlots.{stored_slots}
 use Rattle.ijson_table.specs.private.SlotHashes.{position_in}
@@ -9,10 +9,9 @@ use Rattle.ijson_table.proofs.index.slots.Slots.clear.Goals as goal
 pub returns-clause-empty : goal.returns-clause-empty
 returns-clause-empty c = elim c.match-self.branch [
   | in-Few w ↦ subst (λ (l : Inside). IsEmpty (stored_slots l.stored)) (sym w.self-inside-is)
-      (few-empty w.in-Few.few.count w.fill.new.self (length w.in-Few.few.slots) w.empty.result (w.fill.ensures.after (λ _ e. e))
-      w.empty.ensures)
+      (few-empty w.in-Few.few.count w.fill.new.self (length w.in-Few.few.slots) _ (w.fill.ensures.after (λ _ e. e)) refl)
   | in-Narrow w ↦ subst (λ (l : Inside). IsEmpty (stored_slots l.stored)) (sym w.self-inside-is)
-      (narrow-empty _ _ w.empty-in-Narrow.result (w.fill-in-Narrow.ensures.items (λ _ e. e)) w.empty-in-Narrow.ensures)
+      (narrow-empty _ _ _ (w.fill-in-Narrow.ensures.items (λ _ e. e)) refl)
   | in-Wide w ↦ subst (λ (l : Inside). IsEmpty (stored_slots l.stored)) (sym w.self-inside-is)
-      (wide-empty _ _ w.empty-in-Wide.result (w.fill-in-Wide.ensures.items (λ _ e. e)) (ap position_in w.empty-in-Wide.ensures))
+      (wide-empty _ _ w.empty.result (w.fill-in-Wide.ensures.items (λ _ e. e)) (ap position_in w.empty.ensures))
 ]

@@ -1,12 +1,10 @@
-use Rattle.std.proofs.Common.{◌≡◌, ◌≤◌, ◌∙◌, ℕ, List, length, map, take, ap, arith, rules, sym, subst}
-use Rattle.std.proofs.lemmas.List.{length-map, map-id, with_items_is}
+use Rattle.std.proofs.Common.{◌≡◌, ◌∙◌, ℕ, List, drop, length, map, take, ap, arith, sym, subst}
+use Rattle.std.proofs.lemmas.List.{length-map, length-take, map-id, take_at, with_items_is}
 use Rattle.ijson_table.specs.declared.slot.Slot.{Slot}
 use Rattle.ijson_table.specs.declared.index.slots.Slots.TheInside.{Inside}
-use Rattle.ijson_table.specs.declared.index.slots.TheConstants.{FEW_SLOTS}
 use Rattle.ijson_table.specs.private.Insertion.{IsPut, MayPut}
 use Rattle.ijson_table.specs.private.Narrow.{MayHold, widened}
 use Rattle.ijson_table.specs.private.NarrowSlots.{stored_slots, IsStoredByCount}
-use Rattle.ijson_table.proofs.slots.StoredSlots.{few-length}
 use Rattle.ijson_table.proofs.index.slots.Slots.shift_forward.Goals.{Joined-self, in-Few, in-Narrow, in-Wide}
 use Rattle.ijson_table.proofs.index.slots.Slots.shift_forward.Goals as goal
 
@@ -14,21 +12,25 @@ use Rattle.ijson_table.proofs.index.slots.Slots.shift_forward.Goals as goal
 abbrev IsAsked : List ℕ → ℕ → ℕ → ℕ → List Slot → Type 0
 IsAsked hashes position hash from slots = MayPut hashes slots position hash from × MayHold (length slots) position hash
 
-pub shift_in_front-requires : goal.shift_in_front-requires
-shift_in_front-requires g c =
+pub shift_forward-requires : goal.shift_forward-requires
+shift_forward-requires g c =
     let few = c.in-Few.few in
-    let within = few.within in
-    let all : length few.slots ≡ FEW_SLOTS = search rules in
-    let room : c.from.result ≤ length few.slots = omega (arith, within, all, c.from.ensures) in
+    let within = subst IsStoredByCount c.in-Few.is c.self.invariant in
     let seen : map widened (take c.from.result few.slots) ≡ c.args.self.now =
     ap (λ n. map widened (take n few.slots)) c.from.ensures ∙ (ap stored_slots (sym c.in-Few.is) ∙ c.self.view_is) in
     let asked = subst (IsAsked g.hashes c.args.position c.args.hash c.args.from) (sym seen)
     c.requires in
-    let fit = asked.1 (omega (arith, few-length c.from.result few.slots room, within, c.from.ensures)) in
-    record { within = room; may = (g.hashes, asked.0); code = fit.0; hash = fit.1 }
+    let fit = asked.1 (omega (
+      arith,
+      length-map (take c.from.result few.slots) widened,
+      length-take c.from.result few.slots,
+      within,
+      c.from.ensures,
+    )) in
+    record { may = (g.hashes, asked.0); code = fit.0; hash = fit.1 }
 
-pub shift_forward-requires : goal.shift_forward-requires
-shift_forward-requires g c =
+pub shift_forward-requires-in-Narrow : goal.shift_forward-requires-in-Narrow
+shift_forward-requires-in-Narrow g c =
     let size = subst IsStoredByCount c.in-Narrow.is c.self.invariant in
     let slots = c.deref_mut.result.now in
     let seen : map widened slots ≡ c.args.self.now =
@@ -62,14 +64,19 @@ put : (g : _) (c : Joined-self g) → IsPut g.hashes c.args.self.now c.args.posi
 put g c =
     let may : MayPut g.hashes c.args.self.now c.args.position c.args.hash c.args.from = c.requires.0 in
     elim c.match-self.branch [
-      | in-Few w ↦ put_as g.hashes c.args.position c.args.hash c.args.from _ _ _ _ _ _ w.shift_in_front.ensures
-          (ap (λ n. map widened (take n w.in-Few.few.slots)) w.from.ensures ∙ (ap stored_slots (sym w.in-Few.is) ∙ c.self.view_is))
-          (ap (λ n. map widened (take n w.shift_in_front.new.slots)) w.from.ensures
-          ∙ sym (ap (λ (l : Inside). stored_slots l.stored) w.self-inside-is)) (sym w.result-is) may
-      | in-Narrow w ↦
+      | in-Few w ↦
+          let few = w.in-Few.few in
           let left = w.shift_forward.new.slots in
-          let same = with_items_is w.in-Narrow.slots left (omega (arith, w.shift_forward.auto.slots, w.deref_mut.ensures.len)) in
+          let within = subst IsStoredByCount w.in-Few.is c.self.invariant in
+          let same = take_at left (drop w.from.result few.slots) few.count
+          (omega (arith, w.shift_forward.auto.slots, length-take w.from.result few.slots, within, w.from.ensures)) in
           put_as g.hashes c.args.position c.args.hash c.args.from _ _ _ _ _ _ w.shift_forward.ensures
+          (ap (λ n. map widened (take n few.slots)) w.from.ensures ∙ (ap stored_slots (sym w.in-Few.is) ∙ c.self.view_is))
+          (sym (ap (map widened) same) ∙ sym (ap (λ (l : Inside). stored_slots l.stored) w.self-inside-is)) (sym w.result-is) may
+      | in-Narrow w ↦
+          let left = w.shift_forward-in-Narrow.new.slots in
+          let same = with_items_is w.in-Narrow.slots left (omega (arith, w.shift_forward-in-Narrow.auto.slots, w.deref_mut.ensures.len)) in
+          put_as g.hashes c.args.position c.args.hash c.args.from _ _ _ _ _ _ w.shift_forward-in-Narrow.ensures
           (ap (map widened) w.deref_mut.ensures.value ∙ (ap stored_slots (sym w.in-Narrow.is) ∙ c.self.view_is))
           (sym (ap (map widened) same) ∙ sym (ap (λ (l : Inside). stored_slots l.stored) w.self-inside-is)) (sym w.result-is) may
       | in-Wide w ↦

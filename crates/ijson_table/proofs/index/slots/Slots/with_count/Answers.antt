@@ -1,25 +1,47 @@
-use Rattle.std.proofs.Common.{ap, sym, subst}
+use Rattle.std.proofs.Common.{◌∙◌, ap, arith, length, refl, replicate, sym, subst}
+use Rattle.std.proofs.lemmas.List.{length-map, length-replicate}
 use Rattle.ijson_table.specs.declared.index.slots.Stored.{Stored}
+use Rattle.ijson_table.specs.declared.index.slots.TheConstants.{FEW_SLOTS}
+use Rattle.ijson_table.specs.private.Narrow.{widened}
 use Rattle.ijson_table.specs.private.NarrowSlots.{stored_slots}
 use Rattle.ijson_table.specs.private.SlotHashes.{position_in}
-use Rattle.ijson_table.proofs.slots.StoredSlots.{IsEmpty, narrow-empty, wide-empty}
+use Rattle.ijson_table.proofs.slots.StoredSlots.{IsEmpty, few-empty, few-length, narrow-empty, wide-empty}
 use Rattle.ijson_table.proofs.index.slots.Slots.with_count.Goals.{then-count-le-FEW_SLOTS}
-use Rattle.ijson_table.proofs.index.slots.Slots.with_count.Goals.{else-count-le-FEW_SLOTS+then-count-le-NARROW_SLOTS+in_ok-repeated}
-use Rattle.ijson_table.proofs.index.slots.Slots.with_count.Goals.{else-count-le-FEW_SLOTS+else-count-le-NARROW_SLOTS+in_ok-repeated-2}
+use Rattle.ijson_table.proofs.index.slots.Slots.with_count.Goals.{else-count-le-FEW_SLOTS+then-count-le-NARROW_SLOTS+in_ok-vec}
+use Rattle.ijson_table.proofs.index.slots.Slots.with_count.Goals.{else-count-le-FEW_SLOTS+else-count-le-NARROW_SLOTS+in_ok-vec-2}
 use Rattle.ijson_table.proofs.index.slots.Slots.with_count.Goals as goal
 
 pub returns-clause-empty : goal.returns-clause-empty
 returns-clause-empty c = elim c.if-count-le-FEW_SLOTS.branch [
-  | then-count-le-FEW_SLOTS w ↦
-      subst (λ (s : Stored). IsEmpty (stored_slots s)) (sym w.stored-is) w.empty.ensures.empty
-  | else-count-le-FEW_SLOTS+then-count-le-NARROW_SLOTS+in_ok-repeated w ↦
-      let list = w.in_ok-repeated in
-      let blank = w.empty-then-count-le-NARROW_SLOTS in
+  | then-count-le-FEW_SLOTS w ↦ subst (λ (s : Stored). IsEmpty (stored_slots s)) (sym w.stored-is)
+      (few-empty c.args.count (replicate FEW_SLOTS _) FEW_SLOTS _ refl refl)
+  | else-count-le-FEW_SLOTS+then-count-le-NARROW_SLOTS+in_ok-vec w ↦
+      let list = w.in_ok-vec in
       subst (λ (s : Stored). IsEmpty (stored_slots s)) (sym w.stored-is)
-      (narrow-empty list.field-0.items c.args.count blank.result list.ensures.items blank.ensures)
-  | else-count-le-FEW_SLOTS+else-count-le-NARROW_SLOTS+in_ok-repeated-2 w ↦
-      let list = w.in_ok-repeated-2 in
-      let blank = w.empty-else-count-le-NARROW_SLOTS in
+      (narrow-empty list.field-0.items c.args.count _ (list.ensures.items_if_clones_equal (λ _ e. e)) refl)
+  | else-count-le-FEW_SLOTS+else-count-le-NARROW_SLOTS+in_ok-vec-2 w ↦
+      let list = w.in_ok-vec-2 in
+      let blank = w.empty in
       subst (λ (s : Stored). IsEmpty (stored_slots s)) (sym w.stored-is)
-      (wide-empty list.field-0.items c.args.count blank.result list.ensures.items (ap position_in blank.ensures))
+      (wide-empty list.field-0.items c.args.count blank.result (list.ensures.items_if_clones_equal (λ _ e. e))
+      (ap position_in blank.ensures))
+]
+
+pub returns-clause-count : goal.returns-clause-count
+returns-clause-count c = elim c.if-count-le-FEW_SLOTS.branch [
+  | then-count-le-FEW_SLOTS w ↦ ap (λ (s : Stored). length (stored_slots s)) w.stored-is
+      ∙ few-length c.args.count _ (simp length-replicate (omega arith))
+  | else-count-le-FEW_SLOTS+then-count-le-NARROW_SLOTS+in_ok-vec w ↦ omega (
+    arith,
+    ap (λ (s : Stored). length (stored_slots s)) w.stored-is,
+    length-map w.in_ok-vec.field-0.items widened,
+    w.in_ok-vec.field-0.ok.0,
+    w.in_ok-vec.ensures.len,
+  )
+  | else-count-le-FEW_SLOTS+else-count-le-NARROW_SLOTS+in_ok-vec-2 w ↦ omega (
+    arith,
+    ap (λ (s : Stored). length (stored_slots s)) w.stored-is,
+    w.in_ok-vec-2.field-0.ok.0,
+    w.in_ok-vec-2.ensures.len,
+  )
 ]
