@@ -1,20 +1,18 @@
 -- The walk over the entries of pairs in the order of their keys: the previous entry of a key has an earlier index.
-use Rattle.std.proofs.Common.{◌≡◌, ◌≢◌, ℕ, suc, ◌+◌, ◌-◌, ◌<◌, ◌≤◌, inl, inr, arith, List, [], length, get_or, set, map, Option, Some, None}
+use Rattle.std.proofs.Common.{◌≡◌, ◌≢◌, ℕ, suc, ◌+◌, ◌-◌, ◌<◌, ◌≤◌, inl, inr, arith, List, [], length, get_or, set, map, Some, None}
 use Rattle.std.proofs.Common.{refl, sym, ap, subst, ◌∙◌, get_or-set_other, get_or-set_same}
 use Rattle.std.proofs.lemmas.Bool.{cases_eq, cases_order}
 use Rattle.std.proofs.lemmas.Bool.Decides.{nat_tests}
 use Rattle.std.proofs.lemmas.List.{get_or-map, length-set}
-use Rattle.std.proofs.lemmas.List.Sums.{sum_by-set}
-use Rattle.std.specs.Prelude.{sum}
+use Rattle.std.proofs.lemmas.List.Elements.{All-get_or}
 use Rattle.std.specs.declared.cmp.Ordering.TheVariants.{Equal}
 use Rattle.ijson_table.specs.Slots.{resident, times}
 use Rattle.ijson_table.specs.private.KeyOrder.{AreEarlier, AreInOrder, IsEarlier, before_by_key, cmp_keys, entry_key, key_at_position}
 use Rattle.ijson_table.specs.private.SecondHash.{second_hash}
 use Rattle.ijson_table.specs.private.SlotHashes.{blank, position_in, positions}
 use Rattle.ijson_table.specs.private.Sorting.{Entry}
-use Rattle.ijson_table.proofs.arithmetic.Counting.{covers}
+use Rattle.ijson_table.proofs.filling.NoneEmpty.{none_empty}
 use Rattle.ijson_table.proofs.firsts.KeyTies.{between, lower_first, same_entry_key, sorted_at, tied}
-use Rattle.ijson_table.proofs.probing.LookCount.{ones, sum-ones, one-at, length-ones}
 use Rattle.ijson_table.proofs.slots.HashesInSlots.{hashes-at, position-at, positions-length}
 use Rattle.ijson_table.proofs.slots.Residents.{some_position, stands, stands_once, times-some}
 
@@ -47,29 +45,9 @@ module _ (keys : List (List ℕ)) (sorted : List Entry) (s : AreInOrder keys sor
       let it = stands i (positions sorted) (omega arith) in
       found i it.0 it.1 it.2
 
-  -- no entry is empty, since there are no more than indices
+  -- no entry is empty
   pub each_stands : (k : ℕ) → k < length sorted → position_in (get_or sorted k blank) ≢ None
-  each_stands k lk none =
-      let others : List ℕ = set (ones (length sorted)) k 0 in
-      let all : length keys ≤ sum others = covers (length keys) (λ i j. position_in (get_or sorted i blank) ≡ Some j) others
-      (λ i j l lj ll a b. let both : Some j ≡ Some l = sym a ∙ b in cc)
-      (λ j lj.
-      let it = spot j lj in
-      let apart : it.0 ≢ k = λ here.
-      let bad : ◌≡◌ {A = Option ℕ} (Some j) None = sym it.2 ∙ (ap (λ n. position_in (get_or sorted n blank)) here ∙ none) in cc in (
-        it.0,
-        omega (arith, length-set (ones (length sorted)) k 0, length-ones (length sorted), it.1),
-        it.2,
-        omega (arith, get_or-set_other (ones (length sorted)) k it.0 0 0 apart, one-at (length sorted) it.0 it.1),
-      )) in
-      omega (
-        arith,
-        all,
-        s.count,
-        sum_by-set (λ x. x) (ones (length sorted)) k 0 0 (omega (arith, length-ones (length sorted), lk)),
-        one-at (length sorted) k lk,
-        sum-ones (length sorted),
-      )
+  each_stands k lk = All-get_or (λ entry. position_in entry ≢ None) sorted k blank lk (none_empty (length keys) sorted s.count s.each)
 
   -- so each has the hash of its key
   is_hashed : (k : ℕ) → k < length sorted → (get_or sorted k blank).hash ≡ second_hash (entry_key keys (get_or sorted k blank))

@@ -10,25 +10,26 @@ use Rattle.ijson_table.specs.private.SlotHashes.{position_in, positions, HasHash
 use Rattle.ijson_table.proofs.shifting.Insertion.{Shifting}
 use Rattle.ijson_table.proofs.index.forward.shift_forward.Given as goal
 
--- The number of slots written is the distance of the next one from the first. The others are unchanged.
-pub record IsOnTheWay (hashes : List ℕ) (old : List Slot) (position from : ℕ) (slots : List Slot) (entry : Slot)
-    (slot written : ℕ) : Type 0 where
+-- As many slots are written as the current one is from the first. The others are unchanged.
+pub record IsOnTheWay (hashes : List ℕ) (old : List Slot) (position from : ℕ) (slots : List Slot) (entry : Slot) (slot : ℕ) : Type 0 where
+  pub starts : from < length old
   pub shifting : (i : ℕ) × (position_in entry ≡ Some i)
-      × Shifting hashes (with_one (positions old) position) i slot written (positions slots)
-  pub changes : changes (positions old) (positions slots) ≤ written
+      × Shifting hashes (with_one (positions old) position) i slot (distance (length old) from slot) (positions slots)
+  pub changes : changes (positions old) (positions slots) ≤ distance (length old) from slot
   pub has_hash : HasHash hashes entry
   pub have_hashes : HaveHashes hashes slots
-  pub passed : AreFull (positions old) from written
-  pub left : (p : ℕ) → p < length slots → written ≤ distance (length slots) from p
+  pub passed : AreFull (positions old) from (distance (length old) from slot)
+  pub left : (p : ℕ) → p < length old → distance (length old) from slot ≤ distance (length old) from p
       → resident (positions slots) p ≡ resident (positions old) p
   pub size : length slots ≡ length old
 
 abbrev pub invariant-loop-was : goal.invariant-loop-was
-invariant-loop-was g l = (hashes : List ℕ)
-    → MayPut hashes (map g.S.StoredSlot.stands_for l.fn.slots) l.fn.position l.fn.hash l.fn.from
-    → IsOnTheWay hashes (map g.S.StoredSlot.stands_for l.fn.slots) l.fn.position l.fn.from
-    (map g.S.StoredSlot.stands_for l.slots) (g.S.StoredSlot.stands_for l.entry) l.slot
-    (distance (length (map g.S.StoredSlot.stands_for l.slots)) l.fn.from l.slot)
+invariant-loop-was g l = record {
+  inside : l.slot < length l.slots;
+  way : (hashes : List ℕ) → MayPut hashes (map g.S.StoredSlot.stands_for l.fn.slots) l.fn.position l.fn.hash l.fn.from
+      → IsOnTheWay hashes (map g.S.StoredSlot.stands_for l.fn.slots) l.fn.position l.fn.from
+      (map g.S.StoredSlot.stands_for l.slots) (g.S.StoredSlot.stands_for l.entry) l.slot;
+}
 
 abbrev pub decreases-loop-was : goal.decreases-loop-was
-decreases-loop-was g l = length l.slots - distance (length l.slots) l.fn.from l.slot
+decreases-loop-was g l = let n = length (map g.S.StoredSlot.stands_for l.fn.slots) in n - distance n l.fn.from l.slot
