@@ -139,10 +139,9 @@ impl Index {
                     slots,
                     modulus,
                     hash,
-                    home,
                     key,
                 };
-                probe(&lookup, looks)
+                probe(&lookup, modulus.count, home, looks)
             }
             None => {
                 let slots = self.slots.as_slice();
@@ -151,10 +150,9 @@ impl Index {
                     slots,
                     modulus,
                     hash,
-                    home,
                     key,
                 };
-                probe(&lookup, looks)
+                probe(&lookup, modulus.count, home, looks)
             }
         }
     }

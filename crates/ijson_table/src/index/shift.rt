@@ -16,38 +16,27 @@ use crate::index::slots::Slots;
 use crate::slot::{Modulus, Seen, Slot};
 use ijson_number::Looks;
 
-/// A probe that knows only the hash of a key.
+/// A probe that compares no keys.
 ///
 /// It seeks the slot of an index or, with `None`, the vacancy for a key that is in no slot.
 #[derive(Drop)]
 struct HashProbe<'a> {
     slots: &'a Slots,
     modulus: Modulus,
-    hash: u64,
     position: Option<usize>,
     ghost counted: { modulus.count ≡ length slots.now },
 }
 
 impl<'a> ProbeTarget for HashProbe<'a> {
     ghost use Rattle.std.specs.Option.{option_eq};
-    ghost use Rattle.std.specs.Prelude.{◌%◌, length, eqb, Some};
+    ghost use Rattle.std.specs.Prelude.{eqb, Some};
     ghost use Rattle.ijson_table.specs.private.SlotHashes.{displacement_in, positions};
 
     ghost slots = { λ s. positions s.slots.now };
 
     ghost displacements = { λ s. displacement_in s.slots.now };
 
-    ghost home_slot = { λ s. s.hash % length s.slots.now };
-
     ghost seeks = { λ s i. option_eq eqb (Some i) s.position };
-
-    fn count(&self) -> usize {
-        self.slots.len()
-    }
-
-    fn home(&self) -> usize {
-        self.modulus.home_of_hash(self.hash)
-    }
 
     fn look(&self, slot: usize, looks: &mut Looks) -> Seen {
         looks.add_one();
@@ -62,13 +51,14 @@ fn vacancy(slots: &Slots, hash: u64) -> usize
     requires { HasEmpty (positions slots.now) }
     ensures { IsVacancy (displacement_in slots.now) (length slots.now) (hash % length slots.now) result }
 {
+    let modulus = Modulus::new(slots.len());
     let newcomer = HashProbe {
         slots,
-        modulus: Modulus::new(slots.len()),
-        hash,
+        modulus,
         position: None,
     };
-    match probe(&newcomer, &mut Looks::new()) {
+    let home = modulus.home_of_hash(hash);
+    match probe(&newcomer, modulus.count, home, &mut Looks::new()) {
         Probed::Vacant(slot) => slot,
         Probed::Found { .. } | Probed::Full => unreachable!(),
     }
@@ -81,13 +71,14 @@ fn slot_of(slots: &Slots, position: usize, hash: u64) -> usize
     ensures within { result < length slots.now }
     ensures there { resident (positions slots.now) result ≡ Some position }
 {
+    let modulus = Modulus::new(slots.len());
     let resident = HashProbe {
         slots,
-        modulus: Modulus::new(slots.len()),
-        hash,
+        modulus,
         position: Some(position),
     };
-    match probe(&resident, &mut Looks::new()) {
+    let home = modulus.home_of_hash(hash);
+    match probe(&resident, modulus.count, home, &mut Looks::new()) {
         Probed::Found { slot, .. } => slot,
         Probed::Vacant(_) | Probed::Full => unreachable!(),
     }
