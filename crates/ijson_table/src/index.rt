@@ -32,7 +32,6 @@ mod shift;
 mod slots;
 
 use crate::index::probe::{Lookup, Probed, probe};
-use crate::index::shift::{rehash_one, swap_remove};
 use crate::index::slots::Slots;
 use crate::slot::{Modulus, Slot};
 use ijson_number::Looks;
@@ -109,54 +108,6 @@ impl Index {
         self.slots.at(slot)
     }
 
-    /// Probes for a key among entries, from its home slot.
-    ///
-    /// `hash` is the part of its hash that the slots keep. Their representation is tested once.
-    #[inline(always)]
-    pub fn probe_for<V>(
-        &self,
-        pairs: &[(IString, V)],
-        modulus: Modulus,
-        hash: u64,
-        home: usize,
-        key: &str,
-        looks: &mut Looks,
-    ) -> Probed
-        requires listed { length pairs.now ≡ length self.now.hashes }
-        requires counted { modulus.count ≡ length self.now.slots }
-        requires homed { home ≡ hash % modulus.count }
-        requires fits { (m : ℕ) → m < length self.now.slots
-            → Passed (displacement self.now.hashes self.now.slots) (length self.now.slots) (hash % length self.now.slots) m
-            → looks.old + m + 1 < 2 ^ 128 }
-        ensures table { IsTable self.now.hashes self.now.slots }
-        ensures grows { looks.old ≤ looks.new }
-        ensures ends { Walks self.now (keys_of pairs.now) hash key.now (looks.new - looks.old) result }
-    {
-        match self.slots.as_narrow() {
-            Some(slots) => {
-                let lookup = Lookup {
-                    pairs,
-                    slots,
-                    modulus,
-                    hash,
-                    key,
-                };
-                probe(&lookup, modulus.count, home, looks)
-            }
-            None => {
-                let slots = self.slots.as_slice();
-                let lookup = Lookup {
-                    pairs,
-                    slots,
-                    modulus,
-                    hash,
-                    key,
-                };
-                probe(&lookup, modulus.count, home, looks)
-            }
-        }
-    }
-
     /// Inserts the next index at the slot at which the probe for its key ended.
     ///
     /// `hash` is the part of the hash of its key that the slots keep. Returns the last slot written, which was the
@@ -173,30 +124,6 @@ impl Index {
         ensures changes { changes self.old.slots self.new.slots ≤ distance (length self.old.slots) slot result + 1 }
     {
         self.slots.shift_forward(slot, position, hash)
-    }
-
-    /// Removes index `position` and gives its number to `last`, a different index.
-    ///
-    /// The hashes are those of their keys.
-    pub fn swap_remove(&mut self, position: usize, hash: u64, last: usize, last_hash: u64)
-        requires { EndsWith self.old.hashes position hash last last_hash }
-        ensures hashes { self.new.hashes ≡ swapped_out self.old.hashes position 0 }
-        ensures count { length self.new.slots ≡ length self.old.slots }
-    {
-        swap_remove(&mut self.slots, position, hash, last, last_hash);
-    }
-
-    /// Gives index `position`, whose key has the hash `was`, another hash.
-    ///
-    /// Both are the parts of the hashes that the slots keep.
-    pub fn rehash_one(&mut self, position: usize, was: u64, hash: u64)
-        requires within { position < length self.old.hashes }
-        requires was { was ≡ get_or self.old.hashes position 0 }
-        requires kept { hash ≡ kept (length self.old.slots) hash }
-        ensures hashes { self.new.hashes ≡ set self.old.hashes position hash }
-        ensures count { length self.new.slots ≡ length self.old.slots }
-    {
-        rehash_one(&mut self.slots, position, was, hash);
     }
 
     /// Empties all slots.

@@ -5,7 +5,7 @@ ghost use Rattle.ijson_table.specs.Slots.{below, resident, times, IsOrdered};
 ghost use Rattle.ijson_table.specs.private.Closing.{closed};
 ghost use Rattle.ijson_table.specs.private.Holds.{Holds, HasEmpty, HasGap};
 ghost use Rattle.ijson_table.specs.private.Insertion.{EndsWith, IsTableOf, Stands};
-ghost use Rattle.ijson_table.specs.private.Narrow.{MayHold};
+ghost use Rattle.ijson_table.specs.private.KeptHash.{kept};
 ghost use Rattle.ijson_table.specs.private.SlotHashes.{displacement_in, positions, HaveHashes};
 ghost use Rattle.ijson_table.specs.private.Probe.{IsVacancy};
 ghost use Rattle.std.specs.List.{remove, swap_remove as swapped_out};
@@ -66,8 +66,7 @@ fn vacancy(slots: &Slots, hash: u64) -> usize
 
 /// Returns the slot of an index, whose key has this hash.
 fn slot_of(slots: &Slots, position: usize, hash: u64) -> usize
-    ghost hashes: { List ℕ }
-    requires { Stands hashes slots.now position hash }
+    requires { (hashes : List ℕ) × Stands hashes slots.now position hash }
     ensures within { result < length slots.now }
     ensures there { resident (positions slots.now) result ≡ Some position }
 {
@@ -124,36 +123,6 @@ fn take_out(slots: &mut Slots, position: usize, hash: u64)
     shift_back(slots, slot);
 }
 
-/// Removes index `position` and gives its number to `last`, a different index.
-pub fn swap_remove(slots: &mut Slots, position: usize, hash: u64, last: usize, last_hash: u64)
-    ghost hashes: { List ℕ }
-    requires table { IsTableOf hashes slots.old }
-    requires hashes { EndsWith hashes position hash last last_hash }
-    ensures table { IsTableOf (swapped_out hashes position 0) slots.new }
-    ensures count { length slots.new ≡ length slots.old }
-{
-    take_out(slots, position, hash);
-    let there = slot_of(slots, last, last_hash);
-    let moved = slots.at(there).hash();
-    slots.set(there, Slot::of(position, moved));
-}
-
-/// Gives an index, whose key has the hash `was`, another hash.
-pub fn rehash_one(slots: &mut Slots, position: usize, was: u64, hash: u64)
-    ghost hashes: { List ℕ }
-    requires table { IsTableOf hashes slots.old }
-    requires within { position < length hashes }
-    requires fits { length slots.old < 2 ^ 64 }
-    requires was { was ≡ get_or hashes position 0 }
-    requires narrow { MayHold (length slots.old) position hash }
-    ensures table { IsTableOf (set hashes position hash) slots.new }
-    ensures count { length slots.new ≡ length slots.old }
-{
-    take_out(slots, position, was);
-    let slot = vacancy(slots, hash);
-    slots.shift_forward(slot, position, hash);
-}
-
 /// Decrements each index after `gone`.
 fn close_up(slots: &mut Slots, gone: usize)
     requires { gone + 1 < 2 ^ 64 }
@@ -165,6 +134,37 @@ fn close_up(slots: &mut Slots, gone: usize)
 }
 
 impl Index {
+    /// Removes index `position` and gives its number to `last`, a different index.
+    ///
+    /// The hashes are those of their keys.
+    pub fn swap_remove(&mut self, position: usize, hash: u64, last: usize, last_hash: u64)
+        requires { EndsWith self.old.hashes position hash last last_hash }
+        ensures hashes { self.new.hashes ≡ swapped_out self.old.hashes position 0 }
+        ensures count { length self.new.slots ≡ length self.old.slots }
+    {
+        take_out(&mut self.slots, position, hash);
+        let there = slot_of(&self.slots, last, last_hash);
+        let moved = self.slots.at(there).hash();
+        self.slots.set(there, Slot::of(position, moved));
+    }
+
+    /// Gives index `position`, whose key has the hash `was`, another hash.
+    ///
+    /// Both are the parts of the hashes that the slots keep.
+    pub fn rehash_one(&mut self, position: usize, was: u64, hash: u64)
+        ghost hashes: { List ℕ }
+        requires hashes { hashes ≡ self.old.hashes }
+        requires within { position < length hashes }
+        requires was { was ≡ get_or hashes position 0 }
+        requires kept { hash ≡ kept (length self.old.slots) hash }
+        ensures hashes { self.new.hashes ≡ set hashes position hash }
+        ensures count { length self.new.slots ≡ length self.old.slots }
+    {
+        take_out(&mut self.slots, position, was);
+        let slot = vacancy(&self.slots, hash);
+        self.slots.shift_forward(slot, position, hash);
+    }
+
     /// Removes index `position`, whose key has this hash, and decrements each later index.
     pub fn shift_remove(&mut self, position: usize, hash: u64, last: usize)
         requires within { position ≤ last }

@@ -1,18 +1,25 @@
 //! `Slots`: the slots of a table, in the smallest representation that fits.
 
-ghost use Rattle.std.specs.Prelude.{◌≡◌, ℕ, ◌<◌, ◌≤◌, List, [], length, set, get_or, replicate, vec_capacity, None, IfOk, OnErr, map, MatchOption};
+ghost use Rattle.std.specs.Prelude.{◌≡◌, ℕ, ◌+◌, ◌-◌, ◌%◌, ◌^◌, ◌<◌, ◌≤◌, List, [], length, set, get_or, replicate, vec_capacity, None, IfOk, OnErr};
 ghost use Rattle.std.specs.List.{All};
 ghost use Rattle.ijson_table.specs.declared.index.slots.TheConstants.{FEW_SLOTS};
+ghost use Rattle.ijson_table.specs.Slots.{displacement, IsTable};
+ghost use Rattle.ijson_table.specs.Store.{keys_of};
+ghost use Rattle.ijson_table.specs.private.CountedSteps.{Walks};
 ghost use Rattle.ijson_table.specs.private.Insertion.{IsPut, MayPut};
-ghost use Rattle.ijson_table.specs.private.KeptHash.{narrow_slots};
-ghost use Rattle.ijson_table.specs.private.Narrow.{Fits, MayHold, widened};
+ghost use Rattle.ijson_table.specs.private.Narrow.{Fits, MayHold};
+ghost use Rattle.ijson_table.specs.private.Probe.{Passed};
 ghost use Rattle.ijson_table.specs.private.SlotHashes.{blank, position_in};
 
+use crate::index::Index;
 use crate::index::forward::{shift_forward, shift_in_front};
+use crate::index::probe::{Lookup, Probed, probe};
 use crate::slot::narrow::NarrowSlot;
 use crate::slot::stored::StoredSlot;
-use crate::slot::{NARROW_SLOTS, Slot};
+use crate::slot::{Modulus, NARROW_SLOTS, Slot};
 use crate::vec::{list_with_room, tighten};
+use ijson_number::Looks;
+use ijson_string::IString;
 use std::alloc::{AllocError, Global};
 use std::marker::Model;
 use std::mem::size_of;
@@ -116,18 +123,6 @@ impl Slots {
         }
     }
 
-    /// Returns the slots as a slice if they take three bytes each, or `None` if they take 16.
-    #[inline(always)]
-    pub fn as_narrow(&self) -> Option<&[NarrowSlot]>
-        ensures { MatchOption result (narrow_slots < length self.now) (λ slots. map widened slots.now ≡ self.now) }
-    {
-        match &self.stored {
-            Stored::Few(few) => Some(&few.slots[..few.len()]),
-            Stored::Narrow(slots) => Some(slots),
-            Stored::Wide(_) => None,
-        }
-    }
-
     /// Writes `entry` to a slot.
     #[inline(always)]
     pub fn set(&mut self, slot: usize, entry: Slot)
@@ -165,18 +160,6 @@ impl Slots {
         }
     }
 
-    /// Returns the slots, of 16 bytes each, as a slice.
-    #[inline(always)]
-    pub fn as_slice(&self) -> &[Slot]
-        requires { narrow_slots < length self.now }
-        ensures { result.now ≡ self.now }
-    {
-        match &self.stored {
-            Stored::Wide(slots) => slots,
-            Stored::Few(_) | Stored::Narrow(_) => unreachable!(),
-        }
-    }
-
     /// Empties all slots.
     pub fn clear(&mut self)
         ensures empty { All (λ slot. position_in slot ≡ None) self.new }
@@ -200,6 +183,55 @@ impl Slots {
             Stored::Wide(slots) => Stored::Wide(exact_copy(alloc, slots)?),
         };
         Ok(Slots { stored })
+    }
+}
+
+impl Index {
+    /// Probes for a key among entries, from its home slot.
+    ///
+    /// `hash` is the part of its hash that the slots keep. Their representation is tested once.
+    #[inline(always)]
+    pub fn probe_for<V>(
+        &self,
+        pairs: &[(IString, V)],
+        modulus: Modulus,
+        hash: u64,
+        home: usize,
+        key: &str,
+        looks: &mut Looks,
+    ) -> Probed
+        requires listed { length pairs.now ≡ length self.now.hashes }
+        requires counted { modulus.count ≡ length self.now.slots }
+        requires homed { home ≡ hash % modulus.count }
+        requires fits { (m : ℕ) → m < length self.now.slots
+            → Passed (displacement self.now.hashes self.now.slots) (length self.now.slots) (hash % length self.now.slots) m
+            → looks.old + m + 1 < 2 ^ 128 }
+        ensures table { IsTable self.now.hashes self.now.slots }
+        ensures grows { looks.old ≤ looks.new }
+        ensures ends { Walks self.now (keys_of pairs.now) hash key.now (looks.new - looks.old) result }
+    {
+        let narrow: &[NarrowSlot] = match &self.slots.stored {
+            Stored::Few(few) => &few.slots[..usize::from(few.count)],
+            Stored::Narrow(slots) => slots,
+            Stored::Wide(slots) => {
+                let lookup = Lookup {
+                    pairs,
+                    slots,
+                    modulus,
+                    hash,
+                    key,
+                };
+                return probe(&lookup, modulus.count, home, looks);
+            }
+        };
+        let lookup = Lookup {
+            pairs,
+            slots: narrow,
+            modulus,
+            hash,
+            key,
+        };
+        probe(&lookup, modulus.count, home, looks)
     }
 }
 

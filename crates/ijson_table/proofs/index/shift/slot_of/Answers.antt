@@ -20,11 +20,11 @@ use Rattle.ijson_table.proofs.index.shift.slot_of.Goals.{After-probe}
 use Rattle.ijson_table.proofs.index.shift.slot_of.Goals as goal
 
 -- the home slot is that of the hash
-home_is : (g : _) (c : goal.After-probe g) → c.home_of_hash-home.result ≡ c.args.hash % length c.args.slots.now
-home_is g c = c.home_of_hash-home.ensures.value ∙ ap (λ n. c.args.hash % n) (c.new-modulus.ensures ∙ c.len.ensures)
+home_is : (c : After-probe) → c.home_of_hash-home.result ≡ c.args.hash % length c.args.slots.now
+home_is c = c.home_of_hash-home.ensures.value ∙ ap (λ n. c.args.hash % n) (c.new-modulus.ensures ∙ c.len.ensures)
 
 pub returns-clause-within : goal.returns-clause-within
-returns-clause-within g c =
+returns-clause-within c =
     let ends = c.in-Found.ensures.ends in
     let n : ℕ = length (positions c.args.slots.now) in
     let size : n ≡ length c.args.slots.now = positions-length c.args.slots.now in
@@ -38,7 +38,7 @@ returns-clause-within g c =
     )
 
 pub returns-clause-there : goal.returns-clause-there
-returns-clause-there g c =
+returns-clause-there c =
     let ends = c.in-Found.ensures.ends in
     let same : c.in-Found.at ≡ c.args.position = grind (arith, nat_tests, ends.3) in
     ends.2 ∙ ap Some same
@@ -103,9 +103,9 @@ no_other hashes slots position hash looks s (Vacant p) ends is =
     ]
 
 pub unreachable-requires : goal.unreachable-requires
-unreachable-requires g c =
-    let place = (goal.at.unreachable-requires g c).After-probe in
+unreachable-requires c =
+    let place = (goal.at.unreachable-requires c).After-probe in
     let looks : ℕ = c.probe.new.looks - c.new.result in
-    no_other g.hashes c.args.slots.now c.args.position c.args.hash looks c.requires c.probe.result
+    no_other c.requires.0 c.args.slots.now c.args.position c.args.hash looks c.requires.1 c.probe.result
     (subst (λ h. Ends (positions c.args.slots.now) (displacement_in c.args.slots.now) h (λ i. eqb i c.args.position) looks c.probe.result)
-    (home_is g place) c.probe.ensures.ends) c.in-Vacant.is
+    (home_is place) c.probe.ensures.ends) c.in-Vacant.is
