@@ -10,17 +10,12 @@
 //! - `add`: adding the keys of a list in order.
 //! - `fill`: filling a table from entries sorted by home slot.
 
-ghost use Rattle.std.specs.Prelude.{◌≡◌, ℕ, ◌+◌, ◌-◌, ◌%◌, ◌^◌, ◌<◌, ◌≤◌, [], ◌∷◌, ◌++◌, length, get_or, set, None, IfOk, OnErr};
-ghost use Rattle.std.specs.List.{swap_remove as swapped_out};
+ghost use Rattle.std.specs.Prelude.{◌≡◌, ◌+◌, ◌<◌, ◌≤◌, [], ◌∷◌, ◌++◌, length, None, IfOk, OnErr};
 ghost use Rattle.ijson_table.specs.Crowd.{distance};
-ghost use Rattle.ijson_table.specs.Slots.{displacement, resident, IsTable};
-ghost use Rattle.ijson_table.specs.Store.{keys_of};
+ghost use Rattle.ijson_table.specs.Slots.{resident, IsTable};
 ghost use Rattle.ijson_table.specs.private.Changes.{changes};
-ghost use Rattle.ijson_table.specs.private.CountedSteps.{Walks};
 ghost use Rattle.ijson_table.specs.private.Holds.{MayStand};
-ghost use Rattle.ijson_table.specs.private.Insertion.{EndsWith};
 ghost use Rattle.ijson_table.specs.private.KeptHash.{kept};
-ghost use Rattle.ijson_table.specs.private.Probe.{Passed};
 ghost use Rattle.ijson_table.specs.private.SlotHashes.{position_in, HasHash};
 
 pub mod add;
@@ -31,11 +26,8 @@ pub mod probe;
 mod shift;
 mod slots;
 
-use crate::index::probe::{Lookup, Probed, probe};
 use crate::index::slots::Slots;
-use crate::slot::{Modulus, Slot};
-use ijson_number::Looks;
-use ijson_string::IString;
+use crate::slot::Slot;
 use std::alloc::{AllocError, Global};
 use std::marker::Model;
 
