@@ -10,15 +10,13 @@
 //! - `add`: adding the keys of a list in order.
 //! - `fill`: filling a table from entries sorted by home slot.
 
-ghost use Rattle.std.specs.Prelude.{◌≡◌, ℕ, ◌+◌, ◌-◌, ◌%◌, ◌^◌, ◌<◌, ◌≤◌, [], ◌∷◌, ◌++◌, length, get_or, set, None, IfOk, OnErr};
-ghost use Rattle.std.specs.List.{swap_remove as swapped_out};
+ghost use Rattle.std.specs.Prelude.{◌≡◌, ℕ, ◌+◌, ◌-◌, ◌%◌, ◌^◌, ◌<◌, ◌≤◌, [], ◌∷◌, ◌++◌, length, None, IfOk, OnErr};
 ghost use Rattle.ijson_table.specs.Crowd.{distance};
 ghost use Rattle.ijson_table.specs.Slots.{displacement, resident, IsTable};
 ghost use Rattle.ijson_table.specs.Store.{keys_of};
 ghost use Rattle.ijson_table.specs.private.Changes.{changes};
 ghost use Rattle.ijson_table.specs.private.CountedSteps.{Walks};
 ghost use Rattle.ijson_table.specs.private.Holds.{MayStand};
-ghost use Rattle.ijson_table.specs.private.Insertion.{EndsWith};
 ghost use Rattle.ijson_table.specs.private.KeptHash.{kept};
 ghost use Rattle.ijson_table.specs.private.Probe.{Passed};
 ghost use Rattle.ijson_table.specs.private.SlotHashes.{position_in, HasHash};
@@ -32,8 +30,8 @@ mod shift;
 mod slots;
 
 use crate::index::probe::{Lookup, Probed, probe};
-use crate::index::shift::{rehash_one, swap_remove};
-use crate::index::slots::Slots;
+use crate::index::slots::{Slots, Stored};
+use crate::slot::narrow::NarrowSlot;
 use crate::slot::{Modulus, Slot};
 use ijson_number::Looks;
 use ijson_string::IString;
@@ -132,31 +130,28 @@ impl Index {
         ensures grows { looks.old ≤ looks.new }
         ensures ends { Walks self.now (keys_of pairs.now) hash key.now (looks.new - looks.old) result }
     {
-        match self.slots.as_narrow() {
-            Some(slots) => {
+        let narrow: &[NarrowSlot] = match &self.slots.stored {
+            Stored::Few(few) => &few.slots[..usize::from(few.count)],
+            Stored::Narrow(slots) => slots,
+            Stored::Wide(slots) => {
                 let lookup = Lookup {
                     pairs,
                     slots,
                     modulus,
                     hash,
-                    home,
                     key,
                 };
-                probe(&lookup, looks)
+                return probe(&lookup, modulus.count, home, looks);
             }
-            None => {
-                let slots = self.slots.as_slice();
-                let lookup = Lookup {
-                    pairs,
-                    slots,
-                    modulus,
-                    hash,
-                    home,
-                    key,
-                };
-                probe(&lookup, looks)
-            }
-        }
+        };
+        let lookup = Lookup {
+            pairs,
+            slots: narrow,
+            modulus,
+            hash,
+            key,
+        };
+        probe(&lookup, modulus.count, home, looks)
     }
 
     /// Inserts the next index at the slot at which the probe for its key ended.
@@ -175,30 +170,6 @@ impl Index {
         ensures changes { changes self.old.slots self.new.slots ≤ distance (length self.old.slots) slot result + 1 }
     {
         self.slots.shift_forward(slot, position, hash)
-    }
-
-    /// Removes index `position` and gives its number to `last`, a different index.
-    ///
-    /// The hashes are those of their keys.
-    pub fn swap_remove(&mut self, position: usize, hash: u64, last: usize, last_hash: u64)
-        requires { EndsWith self.old.hashes position hash last last_hash }
-        ensures hashes { self.new.hashes ≡ swapped_out self.old.hashes position 0 }
-        ensures count { length self.new.slots ≡ length self.old.slots }
-    {
-        swap_remove(&mut self.slots, position, hash, last, last_hash);
-    }
-
-    /// Gives index `position`, whose key has the hash `was`, another hash.
-    ///
-    /// Both are the parts of the hashes that the slots keep.
-    pub fn rehash_one(&mut self, position: usize, was: u64, hash: u64)
-        requires within { position < length self.old.hashes }
-        requires was { was ≡ get_or self.old.hashes position 0 }
-        requires kept { hash ≡ kept (length self.old.slots) hash }
-        ensures hashes { self.new.hashes ≡ set self.old.hashes position hash }
-        ensures count { length self.new.slots ≡ length self.old.slots }
-    {
-        rehash_one(&mut self.slots, position, was, hash);
     }
 
     /// Empties all slots.

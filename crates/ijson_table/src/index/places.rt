@@ -63,17 +63,7 @@ impl<'a, P: Places> ProbeTarget for KeyProbe<'a, P> {
 
     ghost displacements = { λ s. displacement (map P.hash_of (P.keys s.table.now)) (P.slots s.table.now) };
 
-    ghost home_slot = { λ s. home_of P.hash_of (length (P.slots s.table.now)) s.key.now };
-
     ghost seeks = { λ s. is_key (P.keys s.table.now) s.key.now };
-
-    fn count(&self) -> usize {
-        self.table.places()
-    }
-
-    fn home(&self) -> usize {
-        self.table.home(self.key)
-    }
 
     fn look(&self, slot: usize, looks: &mut Looks) -> Seen {
         self.table.look(slot, self.key, looks)
@@ -96,8 +86,9 @@ pub fn locate<P: Places>(table: &P, key: &str, looks: &mut Looks) -> Option<usiz
     ensures bounded { IsBounded P.hash_of (P.keys table.now) (P.slots table.now) (P.room table.now) key.now
         (looks.new - looks.old) }
 {
-    if table.places() == 0 {
+    let count = table.places();
+    if count == 0 {
         return None;
     }
-    probe(&KeyProbe { table, key }, looks).found()
+    probe(&KeyProbe { table, key }, count, table.home(key), looks).found()
 }

@@ -1,6 +1,6 @@
 //! The probe: the one walk over the slots of a table; `Lookup`: the probe for a key among pairs.
 
-ghost use Rattle.std.specs.Prelude.{◌≡◌, ◌↔◌, ℕ, ◌+◌, ◌-◌, ◌%◌, ◌<◌, ◌≤◌, ◌^◌, Bool, List, [], length, get_or, map, Option, IsTrue};
+ghost use Rattle.std.specs.Prelude.{◌≡◌, ◌↔◌, ℕ, ◌+◌, ◌-◌, ◌<◌, ◌≤◌, ◌^◌, Bool, List, [], length, get_or, map, Option, IsTrue};
 ghost use Rattle.ijson_table.specs.Slots.{after, displacement};
 ghost use Rattle.ijson_table.specs.Store.{keys_of};
 ghost use Rattle.ijson_table.specs.private.Lookup.{found_at, is_hashed_key};
@@ -49,21 +49,8 @@ pub trait ProbeTarget {
     /// The displacement of the resident of each slot.
     ghost displacements: { Self → ℕ → ℕ };
 
-    /// The home slot of the target.
-    ghost home_slot: { Self → ℕ };
-
     /// Whether an index is the target.
     ghost seeks: { Self → ℕ → Bool };
-
-    /// Returns the number of slots.
-    fn count(&self) -> usize
-        ensures { result ≡ length (slots self.now) };
-
-    /// Returns the slot at which the probe starts.
-    fn home(&self) -> usize
-        requires { 0 < length (slots self.now) }
-        ensures value { result ≡ home_slot self.now }
-        ensures within { result < length (slots self.now) };
 
     /// Inspects one slot.
     fn look(&self, slot: usize, looks: &mut Looks) -> Seen
@@ -84,19 +71,21 @@ pub fn next_slot(slots: usize, slot: usize) -> usize
 }
 
 /// Walks from the home slot to the target, an empty slot, or a resident closer to its own home slot.
+///
+/// `count` is the number of slots.
 #[inline(always)]
-pub fn probe<P: ProbeTarget>(target: &P, looks: &mut Looks) -> Probed
-    requires some { 0 < length (P.slots target.now) }
+pub fn probe<P: ProbeTarget>(target: &P, count: usize, home: usize, looks: &mut Looks) -> Probed
+    requires counted { count ≡ length (P.slots target.now) }
+    requires home { home < count }
     requires fits { (m : ℕ) → m < length (P.slots target.now)
-        → Passed (P.displacements target.now) (length (P.slots target.now)) (P.home_slot target.now) m
+        → Passed (P.displacements target.now) (length (P.slots target.now)) home m
         → looks.old + m + 1 < 2 ^ 128 }
     ensures grows { looks.old ≤ looks.new }
-    ensures ends { Ends (P.slots target.now) (P.displacements target.now) (P.home_slot target.now)
-        (P.seeks target.now) (looks.new - looks.old) result }
+    ensures ends { Ends (P.slots target.now) (P.displacements target.now) home (P.seeks target.now)
+        (looks.new - looks.old) result }
 {
-    let slots = target.count();
-    let mut slot = target.home();
-    for passed in 0..slots {
+    let mut slot = home;
+    for passed in 0..count {
         match target.look(slot, looks) {
             Seen::Empty => return Probed::Vacant(slot),
             Seen::Resident { at, distance, same } => {
@@ -108,7 +97,7 @@ pub fn probe<P: ProbeTarget>(target: &P, looks: &mut Looks) -> Probed
                 }
             }
         }
-        slot = next_slot(slots, slot);
+        slot = next_slot(count, slot);
     }
     Probed::Full
 }
@@ -123,17 +112,14 @@ pub struct Lookup<'a, 'i, V, S: StoredSlot> {
     /// The number of slots.
     pub modulus: Modulus,
     pub hash: u64,
-    /// The home slot of `hash`.
-    pub home: usize,
     pub key: &'a str,
     ghost table: { IsIndex (map S.stands_for slots.now) },
     ghost listed: { length pairs.now ≡ length (hashes_of (map S.stands_for slots.now)) },
     ghost counted: { modulus.count ≡ length slots.now },
-    ghost homed: { home ≡ hash % modulus.count },
 }
 
 impl<'a, 'i, V, S: StoredSlot + Copy> ProbeTarget for Lookup<'a, 'i, V, S> {
-    ghost use Rattle.std.specs.Prelude.{◌%◌, length, map};
+    ghost use Rattle.std.specs.Prelude.{map};
     ghost use Rattle.ijson_table.specs.Slots.{displacement};
     ghost use Rattle.ijson_table.specs.Store.{keys_of};
     ghost use Rattle.ijson_table.specs.private.Lookup.{is_hashed_key};
@@ -143,17 +129,7 @@ impl<'a, 'i, V, S: StoredSlot + Copy> ProbeTarget for Lookup<'a, 'i, V, S> {
 
     ghost displacements = { λ s. displacement (hashes_of (map S.stands_for s.slots.now)) (positions (map S.stands_for s.slots.now)) };
 
-    ghost home_slot = { λ s. s.hash % length (positions (map S.stands_for s.slots.now)) };
-
     ghost seeks = { λ s. is_hashed_key (hashes_of (map S.stands_for s.slots.now)) (keys_of s.pairs.now) s.hash s.key.now };
-
-    fn count(&self) -> usize {
-        self.modulus.count
-    }
-
-    fn home(&self) -> usize {
-        self.home
-    }
 
     fn look(&self, slot: usize, looks: &mut Looks) -> Seen {
         looks.add_one();

@@ -5,7 +5,7 @@ ghost use Rattle.ijson_table.specs.Slots.{below, resident, times, IsOrdered};
 ghost use Rattle.ijson_table.specs.private.Closing.{closed};
 ghost use Rattle.ijson_table.specs.private.Holds.{Holds, HasEmpty, HasGap};
 ghost use Rattle.ijson_table.specs.private.Insertion.{EndsWith, IsTableOf, Stands};
-ghost use Rattle.ijson_table.specs.private.Narrow.{MayHold};
+ghost use Rattle.ijson_table.specs.private.KeptHash.{kept};
 ghost use Rattle.ijson_table.specs.private.SlotHashes.{displacement_in, positions, HaveHashes};
 ghost use Rattle.ijson_table.specs.private.Probe.{IsVacancy};
 ghost use Rattle.std.specs.List.{remove, swap_remove as swapped_out};
@@ -16,38 +16,27 @@ use crate::index::slots::Slots;
 use crate::slot::{Modulus, Seen, Slot};
 use ijson_number::Looks;
 
-/// A probe that knows only the hash of a key.
+/// A probe that compares no keys.
 ///
 /// It seeks the slot of an index or, with `None`, the vacancy for a key that is in no slot.
 #[derive(Drop)]
 struct HashProbe<'a> {
     slots: &'a Slots,
     modulus: Modulus,
-    hash: u64,
     position: Option<usize>,
     ghost counted: { modulus.count ≡ length slots.now },
 }
 
 impl<'a> ProbeTarget for HashProbe<'a> {
     ghost use Rattle.std.specs.Option.{option_eq};
-    ghost use Rattle.std.specs.Prelude.{◌%◌, length, eqb, Some};
+    ghost use Rattle.std.specs.Prelude.{eqb, Some};
     ghost use Rattle.ijson_table.specs.private.SlotHashes.{displacement_in, positions};
 
     ghost slots = { λ s. positions s.slots.now };
 
     ghost displacements = { λ s. displacement_in s.slots.now };
 
-    ghost home_slot = { λ s. s.hash % length s.slots.now };
-
     ghost seeks = { λ s i. option_eq eqb (Some i) s.position };
-
-    fn count(&self) -> usize {
-        self.slots.len()
-    }
-
-    fn home(&self) -> usize {
-        self.modulus.home_of_hash(self.hash)
-    }
 
     fn look(&self, slot: usize, looks: &mut Looks) -> Seen {
         looks.add_one();
@@ -62,13 +51,14 @@ fn vacancy(slots: &Slots, hash: u64) -> usize
     requires { HasEmpty (positions slots.now) }
     ensures { IsVacancy (displacement_in slots.now) (length slots.now) (hash % length slots.now) result }
 {
+    let modulus = Modulus::new(slots.len());
     let newcomer = HashProbe {
         slots,
-        modulus: Modulus::new(slots.len()),
-        hash,
+        modulus,
         position: None,
     };
-    match probe(&newcomer, &mut Looks::new()) {
+    let home = modulus.home_of_hash(hash);
+    match probe(&newcomer, modulus.count, home, &mut Looks::new()) {
         Probed::Vacant(slot) => slot,
         Probed::Found { .. } | Probed::Full => unreachable!(),
     }
@@ -76,18 +66,18 @@ fn vacancy(slots: &Slots, hash: u64) -> usize
 
 /// Returns the slot of an index, whose key has this hash.
 fn slot_of(slots: &Slots, position: usize, hash: u64) -> usize
-    ghost hashes: { List ℕ }
-    requires { Stands hashes slots.now position hash }
+    requires { (hashes : List ℕ) × Stands hashes slots.now position hash }
     ensures within { result < length slots.now }
     ensures there { resident (positions slots.now) result ≡ Some position }
 {
+    let modulus = Modulus::new(slots.len());
     let resident = HashProbe {
         slots,
-        modulus: Modulus::new(slots.len()),
-        hash,
+        modulus,
         position: Some(position),
     };
-    match probe(&resident, &mut Looks::new()) {
+    let home = modulus.home_of_hash(hash);
+    match probe(&resident, modulus.count, home, &mut Looks::new()) {
         Probed::Found { slot, .. } => slot,
         Probed::Vacant(_) | Probed::Full => unreachable!(),
     }
@@ -133,36 +123,6 @@ fn take_out(slots: &mut Slots, position: usize, hash: u64)
     shift_back(slots, slot);
 }
 
-/// Removes index `position` and gives its number to `last`, a different index.
-pub fn swap_remove(slots: &mut Slots, position: usize, hash: u64, last: usize, last_hash: u64)
-    ghost hashes: { List ℕ }
-    requires table { IsTableOf hashes slots.old }
-    requires hashes { EndsWith hashes position hash last last_hash }
-    ensures table { IsTableOf (swapped_out hashes position 0) slots.new }
-    ensures count { length slots.new ≡ length slots.old }
-{
-    take_out(slots, position, hash);
-    let there = slot_of(slots, last, last_hash);
-    let moved = slots.at(there).hash();
-    slots.set(there, Slot::of(position, moved));
-}
-
-/// Gives an index, whose key has the hash `was`, another hash.
-pub fn rehash_one(slots: &mut Slots, position: usize, was: u64, hash: u64)
-    ghost hashes: { List ℕ }
-    requires table { IsTableOf hashes slots.old }
-    requires within { position < length hashes }
-    requires fits { length slots.old < 2 ^ 64 }
-    requires was { was ≡ get_or hashes position 0 }
-    requires narrow { MayHold (length slots.old) position hash }
-    ensures table { IsTableOf (set hashes position hash) slots.new }
-    ensures count { length slots.new ≡ length slots.old }
-{
-    take_out(slots, position, was);
-    let slot = vacancy(slots, hash);
-    slots.shift_forward(slot, position, hash);
-}
-
 /// Decrements each index after `gone`.
 fn close_up(slots: &mut Slots, gone: usize)
     requires { gone + 1 < 2 ^ 64 }
@@ -174,6 +134,37 @@ fn close_up(slots: &mut Slots, gone: usize)
 }
 
 impl Index {
+    /// Removes index `position` and gives its number to `last`, a different index.
+    ///
+    /// The hashes are those of their keys.
+    pub fn swap_remove(&mut self, position: usize, hash: u64, last: usize, last_hash: u64)
+        requires { EndsWith self.old.hashes position hash last last_hash }
+        ensures hashes { self.new.hashes ≡ swapped_out self.old.hashes position 0 }
+        ensures count { length self.new.slots ≡ length self.old.slots }
+    {
+        take_out(&mut self.slots, position, hash);
+        let there = slot_of(&self.slots, last, last_hash);
+        let moved = self.slots.at(there).hash();
+        self.slots.set(there, Slot::of(position, moved));
+    }
+
+    /// Gives index `position`, whose key has the hash `was`, another hash.
+    ///
+    /// Both are the parts of the hashes that the slots keep.
+    pub fn rehash_one(&mut self, position: usize, was: u64, hash: u64)
+        ghost hashes: { List ℕ }
+        requires hashes { hashes ≡ self.old.hashes }
+        requires within { position < length hashes }
+        requires was { was ≡ get_or hashes position 0 }
+        requires kept { hash ≡ kept (length self.old.slots) hash }
+        ensures hashes { self.new.hashes ≡ set hashes position hash }
+        ensures count { length self.new.slots ≡ length self.old.slots }
+    {
+        take_out(&mut self.slots, position, was);
+        let slot = vacancy(&self.slots, hash);
+        self.slots.shift_forward(slot, position, hash);
+    }
+
     /// Removes index `position`, whose key has this hash, and decrements each later index.
     pub fn shift_remove(&mut self, position: usize, hash: u64, last: usize)
         requires within { position ≤ last }

@@ -1,11 +1,10 @@
 //! `Slots`: the slots of a table, in the smallest representation that fits.
 
-ghost use Rattle.std.specs.Prelude.{◌≡◌, ℕ, ◌<◌, ◌≤◌, List, [], length, set, get_or, None, IfOk, OnErr, map, MatchOption};
+ghost use Rattle.std.specs.Prelude.{◌≡◌, ℕ, ◌<◌, ◌≤◌, List, [], length, set, get_or, None, IfOk, OnErr};
 ghost use Rattle.std.specs.List.{All};
 ghost use Rattle.ijson_table.specs.declared.index.slots.TheConstants.{FEW_SLOTS};
 ghost use Rattle.ijson_table.specs.private.Insertion.{IsPut, MayPut};
-ghost use Rattle.ijson_table.specs.private.KeptHash.{narrow_slots};
-ghost use Rattle.ijson_table.specs.private.Narrow.{Fits, MayHold, widened};
+ghost use Rattle.ijson_table.specs.private.Narrow.{Fits, MayHold};
 ghost use Rattle.ijson_table.specs.private.SlotHashes.{blank, position_in};
 
 use crate::index::forward::shift_forward;
@@ -24,14 +23,14 @@ const FEW_SLOTS: usize = 10;
 /// Up to `FEW_SLOTS` slots do not allocate.
 #[derive(Drop)]
 pub struct Slots {
-    stored: Stored,
+    pub stored: Stored,
 }
 
 /// The slots, in a representation by their number.
 ///
 /// Up to 10 are inline, up to 158 are a list of three bytes each, and more are a list of 16 bytes each.
 #[derive(Drop)]
-enum Stored {
+pub enum Stored {
     Few(FewSlots),
     Narrow(Vec<NarrowSlot>),
     Wide(Vec<Slot>),
@@ -39,9 +38,9 @@ enum Stored {
 
 /// At most 10 slots. Those from `count` on are unused.
 #[derive(Clone, Copy, Drop)]
-struct FewSlots {
-    count: u8,
-    slots: [NarrowSlot; FEW_SLOTS],
+pub struct FewSlots {
+    pub count: u8,
+    pub slots: [NarrowSlot; FEW_SLOTS],
 }
 
 const _: () = prove!(size_of::<Slots>() == 32);
@@ -117,18 +116,6 @@ impl Slots {
         }
     }
 
-    /// Returns the slots as a slice if they take three bytes each, or `None` if they take 16.
-    #[inline(always)]
-    pub fn as_narrow(&self) -> Option<&[NarrowSlot]>
-        ensures { MatchOption result (narrow_slots < length self.now) (λ slots. map widened slots.now ≡ self.now) }
-    {
-        match &self.stored {
-            Stored::Few(few) => Some(&few.slots[..usize::from(few.count)]),
-            Stored::Narrow(slots) => Some(slots),
-            Stored::Wide(_) => None,
-        }
-    }
-
     /// Writes `entry` to a slot.
     #[inline(always)]
     pub fn set(&mut self, slot: usize, entry: Slot)
@@ -162,18 +149,6 @@ impl Slots {
             ),
             Stored::Narrow(slots) => shift_forward(slots, from, position, hash),
             Stored::Wide(slots) => shift_forward(slots, from, position, hash),
-        }
-    }
-
-    /// Returns the slots, of 16 bytes each, as a slice.
-    #[inline(always)]
-    pub fn as_slice(&self) -> &[Slot]
-        requires { narrow_slots < length self.now }
-        ensures { result.now ≡ self.now }
-    {
-        match &self.stored {
-            Stored::Wide(slots) => slots,
-            Stored::Few(_) | Stored::Narrow(_) => unreachable!(),
         }
     }
 

@@ -1,5 +1,8 @@
-use Rattle.ijson_table.specs.private.SlotHashes.{hashes_of}
+use Rattle.std.proofs.Common.{set}
 use Rattle.ijson_table.proofs.index.Index.rehash_one.Given as goal
 
-abbrev pub ghost-rehash_one : goal.ghost-rehash_one
-ghost-rehash_one a = hashes_of a.slots.now
+abbrev pub ghost-take_out : goal.ghost-take_out
+ghost-take_out g a = g.hashes
+
+abbrev pub ghost-shift_forward : goal.ghost-shift_forward
+ghost-shift_forward g a = set g.hashes a.position a.hash

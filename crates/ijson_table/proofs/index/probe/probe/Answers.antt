@@ -11,12 +11,11 @@ loop-passed-init g c =
     let p = g.P.ProbeTarget in
     let target = c.args.target.now in
     let n : ℕ = length (p.slots target) in
-    let home : p.home_slot target < n = omega (arith, c.home-slot.ensures.within, c.home-slot.ensures.value) in
+    let home : c.args.home < n = omega arith in
     record {
-      within = c.home-slot.ensures.within;
-      home = home;
-      there = c.home-slot.ensures.value ∙ sym (onward-zero n (p.home_slot target) home);
-      passed = passed_none (p.displacements target) n (p.home_slot target);
+      within = home;
+      there = sym (onward-zero n c.args.home home);
+      passed = passed_none (p.displacements target) n c.args.home;
       others = λ j i lj. absurd (omega arith);
       looked = omega arith;
     }
@@ -24,7 +23,7 @@ loop-passed-init g c =
 pub look-requires-clause-fits : goal.look-requires-clause-fits
 look-requires-clause-fits g c =
     let fits = c.requires.fits c.loop-passed.passed (omega
-    (arith, c.loop-passed-test.true, c.count-slots.ensures)) c.loop-passed.invariant.passed in
+    (arith, c.loop-passed-test.true, c.requires.counted)) c.loop-passed.invariant.passed in
     omega (arith, fits, c.loop-passed.invariant.looked)
 
 -- the residents that were passed and one more
@@ -44,18 +43,17 @@ loop-passed-preserved g c =
     let p = g.P.ProbeTarget in
     let target = c.args.target.now in
     let n : ℕ = length (p.slots target) in
-    let h : ℕ = p.home_slot target in
+    let h : ℕ = c.args.home in
     let m : ℕ = c.loop-passed.passed in
-    let size : c.count-slots.result ≡ n = c.count-slots.ensures in
+    let size : c.args.count ≡ n = c.requires.counted in
     let lm : m < n = omega (arith, c.loop-passed-test.true, size) in
     let at : c.loop-passed.slot ≡ onward n h m = c.loop-passed.invariant.there in
     let sees = c.in-Resident.ensures.sees in
     let there : resident (p.slots target) (onward n h m) ≡ Some c.in-Resident.at = ap (resident (p.slots target)) (sym at) ∙ sees.0 in
     record {
       within = omega (arith, c.next_slot-slot.ensures.within, size);
-      home = c.loop-passed.invariant.home;
       there = c.next_slot-slot.ensures.slot ∙ (ap (λ k. after k c.loop-passed.slot) size
-          ∙ (ap (after n) at ∙ after-onward n h m c.loop-passed.invariant.home lm));
+          ∙ (ap (after n) at ∙ after-onward n h m (omega (arith, size, c.requires.home)) lm));
       passed = passed_more (p.displacements target) n h m c.loop-passed.invariant.passed
           (omega (arith, sees.1, c.if-distance-passed.false, ap (p.displacements target) at));
       others = more (p.slots target) (p.seeks target) h m c.in-Resident.at c.loop-passed.invariant.others there
@@ -73,7 +71,7 @@ pub returns-in-Empty-clause-ends : goal.returns-in-Empty-clause-ends
 returns-in-Empty-clause-ends g c =
     let i = c.loop-passed.invariant in (
       c.loop-passed.passed,
-      ends_at (omega (arith, c.loop-passed-test.true, c.count-slots.ensures)) i.there i.passed i.others
+      ends_at (omega (arith, c.loop-passed-test.true, c.requires.counted)) i.there i.passed i.others
           (omega (arith, i.looked, c.in-Empty.ensures.counts)),
       omega (arith, c.in-Empty.ensures.sees.1),
     )
@@ -83,7 +81,7 @@ returns-then-same-clause-ends g c =
     let i = c.loop-passed.invariant in
     let sees = c.in-Resident.ensures.sees in (
       c.loop-passed.passed,
-      ends_at (omega (arith, c.loop-passed-test.true, c.count-slots.ensures)) i.there i.passed i.others
+      ends_at (omega (arith, c.loop-passed-test.true, c.requires.counted)) i.there i.passed i.others
           (omega (arith, i.looked, c.in-Resident.ensures.counts)),
       sees.0,
       sym sees.2 ∙ c.if-same.true,
@@ -93,7 +91,7 @@ pub returns-then-distance-passed-clause-ends : goal.returns-then-distance-passed
 returns-then-distance-passed-clause-ends g c =
     let i = c.loop-passed.invariant in (
       c.loop-passed.passed,
-      ends_at (omega (arith, c.loop-passed-test.true, c.count-slots.ensures)) i.there i.passed i.others
+      ends_at (omega (arith, c.loop-passed-test.true, c.requires.counted)) i.there i.passed i.others
           (omega (arith, i.looked, c.in-Resident.ensures.counts)),
       omega (arith, c.in-Resident.ensures.sees.1, c.if-distance-passed.true),
     )
@@ -104,9 +102,9 @@ returns-clause-ends g c =
     let target = c.args.target.now in
     let i = c.loop-passed.invariant in
     let all : c.loop-passed.passed ≡ length (p.slots target) =
-    omega (arith, c.loop-passed-test.false, c.count-slots.ensures, c.loop-passed.auto.passed-end) in (
-      subst (Passed (p.displacements target) (length (p.slots target)) (p.home_slot target)) all i.passed,
-      subst (PassedOthers (p.slots target) (p.seeks target) (p.home_slot target)) all i.others,
+    omega (arith, c.loop-passed-test.false, c.requires.counted, c.loop-passed.auto.passed-end) in (
+      subst (Passed (p.displacements target) (length (p.slots target)) c.args.home) all i.passed,
+      subst (PassedOthers (p.slots target) (p.seeks target) c.args.home) all i.others,
       omega (arith, i.looked, all),
     )
 

@@ -9,9 +9,8 @@ invariant-loop-passed g l =
     let count = length (p.slots l.target) in
     record {
       within : l.slot < count;
-      home : p.home_slot l.target < count;
-      there : l.slot ≡ onward count (p.home_slot l.target) l.passed;
-      passed : Passed (p.displacements l.target) count (p.home_slot l.target) l.passed;
-      others : PassedOthers (p.slots l.target) (p.seeks l.target) (p.home_slot l.target) l.passed;
+      there : l.slot ≡ onward count l.home l.passed;
+      passed : Passed (p.displacements l.target) count l.home l.passed;
+      others : PassedOthers (p.slots l.target) (p.seeks l.target) l.home l.passed;
       looked : l.looks ≡ l.fn.looks + l.passed;
     }

@@ -1,9 +1,8 @@
-use Rattle.std.proofs.Common.{◌≡◌, ℕ, ◌%◌, ◌+◌, ◌-◌, ◌<◌, ◌≤◌, ◌⊎◌, List, length, get_or, Some, true, false, Bool, eqb, arith, ap, sym, ◌∙◌}
+use Rattle.std.proofs.Common.{◌≡◌, ℕ, ◌%◌, ◌+◌, ◌-◌, ◌<◌, ◌≤◌, ◌⊎◌, List, length, get_or, Some, true, false, Bool, eqb, arith, ap, subst, sym, ◌∙◌}
 use Rattle.std.proofs.Common.{inl, inr}
 use Rattle.std.proofs.lemmas.Bool.Decides.{nat_tests}
 use Rattle.std.proofs.Math.Nat.{mod-lt}
 use Rattle.std.proofs.lemmas.Bool.{cases_lt}
-use Rattle.std.proofs.lemmas.Nat.{mod_below}
 use Rattle.ijson_table.specs.declared.slot.Slot.{Slot}
 use Rattle.ijson_table.specs.Crowd.{distance}
 use Rattle.ijson_table.specs.Slots.{displacement, home_at, resident, IsOrdered}
@@ -17,24 +16,29 @@ use Rattle.ijson_table.proofs.shifting.Insertion.{eqb-self}
 use Rattle.ijson_table.proofs.shifting.Vacancy.{home_here}
 use Rattle.ijson_table.proofs.slots.HashesInSlots.{positions-length, displacement-in}
 use Rattle.ijson_table.proofs.probing.ProbePath.{displacement-some, on_the_way}
+use Rattle.ijson_table.proofs.index.shift.slot_of.Goals.{After-probe}
 use Rattle.ijson_table.proofs.index.shift.slot_of.Goals as goal
 
+-- the home slot is that of the hash
+home_is : (c : After-probe) → c.home_of_hash-home.result ≡ c.args.hash % length c.args.slots.now
+home_is c = c.home_of_hash-home.ensures.value ∙ ap (λ n. c.args.hash % n) (c.new-modulus.ensures ∙ c.len.ensures)
+
 pub returns-clause-within : goal.returns-clause-within
-returns-clause-within g c =
+returns-clause-within c =
     let ends = c.in-Found.ensures.ends in
     let n : ℕ = length (positions c.args.slots.now) in
     let size : n ≡ length c.args.slots.now = positions-length c.args.slots.now in
+    let count : c.new-modulus.result.count ≡ n = omega (arith, size, c.new-modulus.ensures, c.len.ensures) in
     omega (
       arith,
-      onward-below n (c.args.hash % length c.args.slots.now) ends.0
-          (omega (arith, mod_below c.args.hash (length c.args.slots.now) (omega (arith, c.requires.stands.1)), size))
+      onward-below n c.home_of_hash-home.result ends.0 (omega (arith, c.home_of_hash-home.ensures.within, count))
           (omega (arith, ends.1.within)),
       ends.1.there,
       size,
     )
 
 pub returns-clause-there : goal.returns-clause-there
-returns-clause-there g c =
+returns-clause-there c =
     let ends = c.in-Found.ensures.ends in
     let same : c.in-Found.at ≡ c.args.position = grind (arith, nat_tests, ends.3) in
     ends.2 ∙ ap Some same
@@ -99,5 +103,9 @@ no_other hashes slots position hash looks s (Vacant p) ends is =
     ]
 
 pub unreachable-requires : goal.unreachable-requires
-unreachable-requires g c = no_other g.hashes c.args.slots.now c.args.position c.args.hash
-    (c.probe.new.looks - c.new-2.result) c.requires c.probe.result c.probe.ensures.ends c.in-Vacant.is
+unreachable-requires c =
+    let place = (goal.at.unreachable-requires c).After-probe in
+    let looks : ℕ = c.probe.new.looks - c.new.result in
+    no_other c.requires.0 c.args.slots.now c.args.position c.args.hash looks c.requires.1 c.probe.result
+    (subst (λ h. Ends (positions c.args.slots.now) (displacement_in c.args.slots.now) h (λ i. eqb i c.args.position) looks c.probe.result)
+    (home_is place) c.probe.ensures.ends) c.in-Vacant.is

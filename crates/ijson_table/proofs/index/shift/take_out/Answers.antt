@@ -13,13 +13,15 @@ use Rattle.ijson_table.proofs.index.shift.take_out.Goals as goal
 pub slot_of-slot-requires : goal.slot_of-slot-requires
 slot_of-slot-requires g c =
     let table : IsTableOf g.hashes c.args.slots.now = c.requires.0 in
-    let spot = placed_at g.hashes (positions c.args.slots.now) table.table c.args.position c.requires.1.0 in
-    record {
-      hash_is = c.requires.1.1;
-      hashes_are = table.hashes_are;
-      ordered = table.table.ordered;
-      stands = (spot.0, omega (arith, spot.1, positions-length c.args.slots.now), spot.2);
-    }
+    let spot = placed_at g.hashes (positions c.args.slots.now) table.table c.args.position c.requires.1.0 in (
+      g.hashes,
+      record {
+        hash_is = c.requires.1.1;
+        hashes_are = table.hashes_are;
+        ordered = table.table.ordered;
+        stands = (spot.0, omega (arith, spot.1, positions-length c.args.slots.now), spot.2);
+      },
+    )
 
 pub shift_back-requires : goal.shift_back-requires
 shift_back-requires g c =

@@ -1,7 +1,4 @@
 use Rattle.ijson_table.proofs.index.shift.take_out.Given as goal
 
-abbrev pub ghost-slot_of : goal.ghost-slot_of
-ghost-slot_of g a = g.hashes
-
 abbrev pub ghost-shift_back : goal.ghost-shift_back
 ghost-shift_back g a = g.hashes

@@ -1,17 +1,35 @@
-use Rattle.std.proofs.Common.{◌≡◌, length, map, set, arith, rules, ap, ap₂, sym, ◌∙◌, subst}
-use Rattle.std.proofs.lemmas.List.{length-set, map-set}
+use Rattle.std.proofs.Common.{◌≡◌, length, get_or, map, set, arith, rules, refl, ap, ap₂, sym, ◌∙◌, subst}
+use Rattle.std.proofs.lemmas.List.{length-map, length-set, map-set}
 use Rattle.ijson_table.specs.Placed.{Placed}
 use Rattle.ijson_table.specs.Store.{at, keys_of, with_key, IsDistinct}
 use Rattle.ijson_table.specs.private.KeptHash.{kept, kept_hash}
 use Rattle.ijson_table.proofs.pairs.OtherKeys.{distinct_with_key, keys-with_key, set-key}
+use Rattle.ijson_table.proofs.pairs.PairsByKey.{keys-length}
 use Rattle.ijson_table.proofs.pairs.Shown.{count_shown, pairs_shown}
 use Rattle.ijson_table.proofs.slots.KeptHashes.{kept_once}
 use Rattle.ijson_table.proofs.table.Table.replace_key_at.Goals.{After-replace}
 use Rattle.ijson_table.proofs.table.Table.replace_key_at.Goals as goal
 
-pub rehash_one-requires-clause-kept : goal.rehash_one-requires-clause-kept
-rehash_one-requires-clause-kept g c = kept_once (length c.self.inside.index.slots) c.new.result.count c.hash.result c.kept_hash-hash.result
-    c.kept_hash-hash.ensures (c.new.ensures ∙ c.len.ensures.count)
+pub rehash_one-requires : goal.rehash_one-requires
+rehash_one-requires g c = let old = c.self.inside.pairs.items in let hash = g.H.KeyHash.hash_of in (
+  refl,
+  (
+    omega (
+      arith,
+      ap length c.self.invariant.hashes,
+      length-map (keys_of old) (kept_hash (length c.self.inside.index.slots) hash),
+      keys-length old,
+      c.requires.within,
+      count_shown c.self.view_is,
+    ),
+    (
+      c.hash_at-was.ensures ∙ (sym (ap (λ (t : Placed g.row.V.Denot). get_or (map (kept_hash (length t.slots) hash)
+          (keys_of t.store.pairs)) c.args.index 0) c.self.view_is) ∙ ap (λ hs. get_or hs c.args.index 0) (sym c.self.invariant.hashes)),
+      kept_once (length c.self.inside.index.slots) c.new.result.count c.hash.result c.kept_hash-hash.result
+          c.kept_hash-hash.ensures (c.new.ensures ∙ c.len.ensures.count),
+    ),
+  ),
+)
 
 -- the pairs with the new key
 now : (g : _) (c : After-replace g) → set c.self.inside.pairs.items c.args.index (c.replace.new.dest, c.index_mut.result.now.1)
