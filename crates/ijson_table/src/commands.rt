@@ -1,12 +1,10 @@
 //! Commands on a pair store, and a function that runs them.
 
-ghost use Rattle.std.specs.Prelude.{◌≡◌, ℕ, List, IfOk, OnErr};
-ghost use Rattle.ijson_table.specs.Inserts.{Inserts};
+ghost use Rattle.std.specs.Prelude.{◌≡◌, IfOk, OnErr};
 ghost use Rattle.ijson_table.specs.Steps.{Step, Run};
-ghost use Rattle.ijson_table.specs.declared.commands.Command.TheVariants.{Insert, Remove, ShiftRemove};
-ghost use Rattle.ijson_table.specs.declared.commands.Reply.TheVariants.{Removed};
+ghost use Rattle.ijson_table.specs.Store.{at};
 
-use crate::store::{PairStore, RefusedPair, ReserveError, insert};
+use crate::store::{PairStore, ReserveError, insert};
 use ijson_string::IString;
 use std::alloc::{AllocError, Global};
 
@@ -49,19 +47,26 @@ pub enum Reply<V> {
 }
 
 /// Runs one command.
+#[tactic(auto, using(crate::proofs::pairs::PairsByKey::position_within))]
 fn step<V: Drop, P: PairStore<V>>(store: &mut P, command: Command<V>) -> Reply<V>
     ensures { Step (P.pairs store.old) (P.room store.old) command result
         (P.pairs store.new) (P.room store.new) }
 {
     match command {
-        Command::Insert(key, value) => inserted(insert(store, key, value)),
-        Command::Find(key) => {
-            let found = store.position(key.as_str());
-            drop(key);
-            Reply::Found(found)
-        }
-        Command::Remove(key) => Reply::Removed(remove(store, key)),
-        Command::ShiftRemove(key) => Reply::Removed(shift_remove(store, key)),
+        Command::Insert(key, value) => match insert(store, key, value) {
+            Ok(None) => Reply::Added,
+            Ok(Some(old)) => Reply::Replaced(old),
+            Err(refused) => Reply::Refused(refused.key, refused.value, refused.why),
+        },
+        Command::Find(key) => Reply::Found(find(store, key)),
+        Command::Remove(key) => Reply::Removed(match find(store, key) {
+            Some(index) => Some(store.swap_out(index)),
+            None => None,
+        }),
+        Command::ShiftRemove(key) => Reply::Removed(match find(store, key) {
+            Some(index) => Some(store.shift_out(index)),
+            None => None,
+        }),
         Command::Reserve(additional) => match store.reserve(additional) {
             Ok(()) => Reply::Done,
             Err(why) => Reply::NotDone(why),
@@ -77,37 +82,13 @@ fn step<V: Drop, P: PairStore<V>>(store: &mut P, command: Command<V>) -> Reply<V
     }
 }
 
-/// Converts the result of an insertion to a reply.
-fn inserted<V>(outcome: Result<Option<V>, RefusedPair<V>>) -> Reply<V>
-    ensures { (pairs pairs' : List (List ℕ × V)) (c c' : ℕ) (key : List ℕ) (value : V)
-        → Inserts pairs c key value outcome pairs' c' → Step pairs c (Insert key value) result pairs' c' }
-{
-    match outcome {
-        Ok(None) => Reply::Added,
-        Ok(Some(old)) => Reply::Replaced(old),
-        Err(refused) => Reply::Refused(refused.key, refused.value, refused.why),
-    }
-}
-
-/// Removes the entry with a key, if present. The last entry takes its place.
-#[tactic(auto, using(crate::proofs::pairs::PairsByKey::position_within))]
-fn remove<V, P: PairStore<V>>(store: &mut P, key: IString) -> Option<(IString, V)>
-    ensures { Step (P.pairs store.old) (P.room store.old) (Remove key) (Removed result) (P.pairs store.new) (P.room store.new) }
+/// Returns the index of a key, or `None` if the key is missing.
+fn find<V, P: PairStore<V>>(store: &P, key: IString) -> Option<usize>
+    ensures { result ≡ at (P.pairs store.now) key }
 {
     let found = store.position(key.as_str());
     drop(key);
-    Some(store.swap_out(found?))
-}
-
-/// Removes the entry with a key, if present. Each later entry moves down by one index.
-#[tactic(auto, using(crate::proofs::pairs::PairsByKey::position_within))]
-fn shift_remove<V, P: PairStore<V>>(store: &mut P, key: IString) -> Option<(IString, V)>
-    ensures { Step (P.pairs store.old) (P.room store.old) (ShiftRemove key) (Removed result)
-        (P.pairs store.new) (P.room store.new) }
-{
-    let found = store.position(key.as_str());
-    drop(key);
-    Some(store.shift_out(found?))
+    found
 }
 
 /// Runs commands in order and returns their replies.

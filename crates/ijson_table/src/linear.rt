@@ -10,7 +10,7 @@ ghost use Rattle.ijson_table.specs.Inserts.{Inserts};
 ghost use Rattle.ijson_table.specs.private.Room.{IsResized};
 
 use crate::growth::{grown_capacity, limited};
-use crate::store::{PairStore, RefusedPair, ReserveError, fmt_pairs, insert};
+use crate::store::{PairStore, RefusedPair, ReserveError, insert};
 use crate::vec::set_room;
 use ijson_string::IString;
 use std::alloc::{AllocError, Global};
@@ -128,7 +128,9 @@ impl<V: Drop> LinearPairs<V> {
 /// Formats the entries as a map, in order.
 impl<V: fmt::Debug> fmt::Debug for LinearPairs<V> {
     fn fmt<W: fmt::Write>(&self, f: &mut fmt::Formatter<W>) -> fmt::Result {
-        fmt_pairs(&self.pairs, f)
+        f.debug_map()
+            .entries(self.pairs.iter().map(|pair| (&pair.0, &pair.1)))
+            .finish()
     }
 }
 

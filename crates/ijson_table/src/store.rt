@@ -1,6 +1,6 @@
 //! The interface of a pair store.
 
-ghost use Rattle.std.specs.Prelude.{◌≡◌, ℕ, ◌+◌, ◌<◌, ◌≤◌, List, [], ◌∷◌, ◌++◌, length, slice_get, Some, None, Ok, OnOk};
+ghost use Rattle.std.specs.Prelude.{◌≡◌, ℕ, ◌+◌, ◌<◌, ◌≤◌, List, [], ◌∷◌, ◌++◌, length, slice_get, Some, None, OnOk};
 ghost use Rattle.ijson_table.specs.Store.{at, keys_of, shift_out, swap_out, IsDistinct, with_value};
 ghost use Rattle.ijson_table.specs.Growth.{Grow, Shrink, capacity_limit};
 ghost use Rattle.ijson_table.specs.Inserts.{Inserts};
@@ -8,7 +8,7 @@ ghost use Rattle.std.specs.Borrow.{Lends, sem};
 
 use ijson_string::IString;
 use std::alloc::{AllocError, Global};
-use std::{fmt, mem};
+use std::mem;
 use thiserror::Error;
 
 /// The reason why the capacity of a store did not change.
@@ -213,17 +213,6 @@ pub trait PairStore<V>: Sized {
         → (pairs (set_value s i v) ≡ with_value (pairs s) i v) × (room (set_value s i v) ≡ room s) };
 }
 
-/// Replaces the value at an index and returns the old one.
-#[inline(always)]
-pub fn replace_at<V, P: PairStore<V>>(store: &mut P, position: usize, value: V) -> V
-    requires { position < length (P.pairs store.old) }
-    ensures inserts { (key : List ℕ) → at (P.pairs store.old) key ≡ Some position
-        → Inserts (P.pairs store.old) (P.room store.old) key value (Ok (Some result)) (P.pairs store.new) (P.room store.new) }
-    ensures store { store.new ≡ P.set_value store.old position value }
-{
-    mem::replace(store.value_mut(position), value)
-}
-
 /// Inserts an entry into a store and returns the old value of its key, if any.
 ///
 /// A key that is present keeps its index, and nothing is allocated. A new key is appended; the store grows first if it
@@ -241,23 +230,11 @@ pub fn insert<V: Drop, P: PairStore<V>>(
         (P.pairs store.new) (P.room store.new) }
 {
     if let Some(at) = store.position(key.as_str()) {
-        return Ok(Some(replace_at(store, at, value)));
+        return Ok(Some(mem::replace(store.value_mut(at), value)));
     }
     if let Err(why) = store.reserve(1) {
         return Err(RefusedPair { key, value, why });
     }
     store.push_new(key, value);
     Ok(None)
-}
-
-/// Formats pairs as a map, in order.
-pub fn fmt_pairs<V: fmt::Debug, W: fmt::Write>(
-    pairs: &[(IString, V)],
-    f: &mut fmt::Formatter<W>,
-) -> fmt::Result {
-    let mut map = f.debug_map();
-    for pair in pairs {
-        map.entry(&pair.0, &pair.1);
-    }
-    map.finish()
 }

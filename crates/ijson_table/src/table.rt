@@ -1,7 +1,7 @@
 //! A pair store that finds keys by their hash.
 
 ghost use Rattle.std.specs.Prelude.{◌≡◌, ◌+◌, ◌-◌, ◌<◌, ◌≤◌, ◌^◌, [], ◌∷◌, ◌++◌, length, get_or, map};
-ghost use Rattle.std.specs.Prelude.{ℕ, List, Ok, Err, refl, is_some, IfOk, IsOk, IsTrue, OnErr, ◌↔◌, Some, None};
+ghost use Rattle.std.specs.Prelude.{Err, refl, is_some, IfOk, IsOk, IsTrue, OnErr, ◌↔◌, None};
 ghost use Rattle.std.specs.Option.{option_copied};
 ghost use Rattle.ijson_table.specs.BuildBound.{IsBuildBounded};
 ghost use Rattle.ijson_table.specs.Growth.{capacity_limit};
@@ -26,7 +26,7 @@ use crate::index::fill::fill_sorted;
 use crate::index::places::{Places, locate};
 use crate::index::probe::{Probed, has_key};
 use crate::slot::{Modulus, Seen};
-use crate::store::{PairStore, RefusedPair, ReserveError, fmt_pairs};
+use crate::store::{PairStore, RefusedPair, ReserveError};
 use crate::vec::{set_room, tighten};
 use ijson_number::Looks;
 use ijson_string::IString;
@@ -167,28 +167,20 @@ impl<V: Drop, H: KeyHash> Table<V, H> {
         match self.find(hash, key.as_str(), looks) {
             Probed::Found { at, .. } => {
                 drop(key);
-                Ok(Some(self.replace_at(at, value)))
+                Ok(Some(mem::replace(self.value_mut(at), value)))
             }
             Probed::Vacant(slot) if self.pairs.len() < self.pairs.capacity() => {
                 self.push_at(slot, key, value, hash);
                 Ok(None)
             }
-            Probed::Vacant(_) | Probed::Full => self.push_grown(key, value, hash),
+            Probed::Vacant(_) | Probed::Full => {
+                if let Err(why) = self.reserve(1) {
+                    return Err(RefusedPair { key, value, why });
+                }
+                self.push_hashed(key, value, hash);
+                Ok(None)
+            }
         }
-    }
-
-    /// Appends an entry whose key is new and has this hash; grows first if there is no spare capacity.
-    fn push_grown(&mut self, key: IString, value: V, hash: u64) -> Result<Option<V>, RefusedPair<V>>
-        requires missing { at self.old.store.pairs key ≡ None }
-        requires hash { hash ≡ H.hash_of key }
-        ensures { Inserts self.old.store.pairs self.old.store.capacity key value result
-            self.new.store.pairs self.new.store.capacity }
-    {
-        if let Err(why) = self.reserve(1) {
-            return Err(RefusedPair { key, value, why });
-        }
-        self.push_hashed(key, value, hash);
-        Ok(None)
     }
 
     /// Sets the capacity, to the length or to at least the old one.
@@ -207,20 +199,6 @@ impl<V: Drop, H: KeyHash> Table<V, H> {
         }
         drop(mem::replace(&mut self.index, index));
         Ok(())
-    }
-
-    /// Replaces the value at an index and returns the old one.
-    ///
-    /// The function of the same name for every store would do, but its callers are proved after all calls of the trait.
-    #[inline(always)]
-    fn replace_at(&mut self, position: usize, value: V) -> V
-        requires { position < length self.old.store.pairs }
-        ensures inserts { (key : List ℕ) → at self.old.store.pairs key ≡ Some position
-            → Inserts self.old.store.pairs self.old.store.capacity key value (Ok (Some result))
-            self.new.store.pairs self.new.store.capacity }
-        ensures store { self.new ≡ placed_with_value self.old position value }
-    {
-        mem::replace(self.value_mut(position), value)
     }
 
     /// Appends an entry whose key is new and has this hash, within the spare capacity.
@@ -415,7 +393,9 @@ impl<V, H: KeyHash> Table<V, H> {
 /// Formats the entries as a map, in order.
 impl<V: fmt::Debug, H: KeyHash> fmt::Debug for Table<V, H> {
     fn fmt<W: fmt::Write>(&self, f: &mut fmt::Formatter<W>) -> fmt::Result {
-        fmt_pairs(&self.pairs, f)
+        f.debug_map()
+            .entries(self.pairs.iter().map(|pair| (&pair.0, &pair.1)))
+            .finish()
     }
 }
 

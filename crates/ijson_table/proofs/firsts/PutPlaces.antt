@@ -1,10 +1,9 @@
 -- Indices of keys before and after insertions.
-use Rattle.std.proofs.Common.{◌≡◌, ◌≢◌, ℕ, suc, ◌+◌, ◌<◌, inl, inr, arith, List, [], ◌∷◌, ◌++◌, length, get_or, Option, Some}
-use Rattle.std.proofs.Common.{None, cond, true, false, refl, sym, ap, ◌∙◌, length-append}
+use Rattle.std.proofs.Common.{◌≡◌, ◌≢◌, ℕ, suc, ◌<◌, inl, inr, arith, List, [], ◌∷◌, ◌++◌, length, get_or, Some}
+use Rattle.std.proofs.Common.{None, refl, sym, ap, ◌∙◌, length-append}
 use Rattle.std.proofs.Math.ListN.{get_or-append}
 use Rattle.std.proofs.Math.Seq.{get_or-append_seam}
 use Rattle.std.proofs.lemmas.List.{map-append}
-use Rattle.std.specs.Prelude.{bytes_eq, option_map}
 use Rattle.ijson_table.specs.Store.{at, keys_of, position_of, put, put_each}
 use Rattle.ijson_table.specs.laws.Store.{keys-with_value}
 use Rattle.ijson_table.proofs.pairs.KeyPositions.{absent-from, position-first, same_key}
@@ -16,13 +15,12 @@ module _ {V : Type 0} where
   at-put_other : (ps : List (List ℕ × V)) (k key : List ℕ) (v : V) → k ≢ key → at (put ps k v) key ≡ at ps key
   at-put_other [] k key v ne = elim (same_key k key) [
     | inl s ↦ absurd (ne s.1)
-    | inr d ↦ let none : Option ℕ = None in ap (λ b. cond b (Some 0) none) d.0
+    | inr d ↦ simp d.0
   ]
-  at-put_other (p ∷ ps) k key v ne = elim (bytes_eq p.0 k) as
-      (λ b. at (cond b ((p.0, v) ∷ ps) (p ∷ put ps k v)) key ≡ at (p ∷ ps) key) [
-        | true ↦ refl
-        | false ↦ ap (λ o. cond (bytes_eq p.0 key) (Some 0) (option_map (λ i. i + 1) o)) (at-put_other ps k key v ne)
-      ]
+  at-put_other (p ∷ ps) k key v ne = elim (same_key p.0 k) [
+    | inl s ↦ simp s.0
+    | inr d ↦ simp (d.0, at-put_other ps k key v ne)
+  ]
 
   -- and that of a key that is present
   pub at-put_kept : (ps : List (List ℕ × V)) (k key : List ℕ) (v : V) (i : ℕ) → at ps key ≡ Some i → at (put ps k v) key ≡ Some i

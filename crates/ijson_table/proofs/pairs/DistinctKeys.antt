@@ -13,7 +13,7 @@ lacks_at key (k ∷ ks) l zero lj e = l.0 e
 lacks_at key (k ∷ ks) l (suc j) lj e = lacks_at key ks l.1 j (omega arith) e
 
 -- a list that has a key at no index lacks it
-lacks_from : (key : List ℕ) (ks : List (List ℕ)) → ((j : ℕ) → j < length ks → key ≢ get_or ks j []) → Lacks key ks
+pub lacks_from : (key : List ℕ) (ks : List (List ℕ)) → ((j : ℕ) → j < length ks → key ≢ get_or ks j []) → Lacks key ks
 lacks_from key [] other = tt
 lacks_from key (k ∷ ks) other = (other 0 (omega arith), lacks_from key ks (λ j lj. other (suc j) (omega arith)))
 

@@ -1,6 +1,6 @@
 -- Indices of keys in a list: the first at which it is the key, and none if it is missing.
 use Rattle.std.proofs.Common.{◌≡◌, ◌≢◌, ℕ, zero, suc, ◌+◌, ◌<◌, ◌⊎◌, inl, inr, arith, List, [], ◌∷◌, length, get_or}
-use Rattle.std.proofs.Common.{Option, Some, None, cond, true, false, refl, sym, ap, subst, ◌∙◌}
+use Rattle.std.proofs.Common.{Option, Some, None, true, false, refl, sym, ap, subst, ◌∙◌}
 use Rattle.std.specs.Prelude.{bytes_eq, option_map}
 use Rattle.std.specs.Cmp.Lexicographic.{bytes_decides}
 use Rattle.ijson_table.specs.Store.{position_of, IsDistinct}
@@ -13,25 +13,14 @@ same_key a b = elim (bytes_eq a b) as (λ r. bytes_eq a b ≡ r → ((bytes_eq a
   | false ↦ λ e. inr (e, λ same. let yes_it_is = (bytes_decides a b).1 same in let bad : true ≡ false = sym yes_it_is ∙ e in cc)
 ] refl
 
--- the first key has index 0
-position-head : (k : List ℕ) (ks : List (List ℕ)) (key : List ℕ) → bytes_eq k key ≡ true → position_of (k ∷ ks) key ≡ Some 0
-position-head k ks key same = ap (λ b. cond b (Some 0) (option_map (λ i. i + 1) (position_of ks key))) same
-
--- any other is one further on than in the rest
-pub position-tail : (k : List ℕ) (ks : List (List ℕ)) (key : List ℕ) → bytes_eq k key ≡ false
-    → position_of (k ∷ ks) key ≡ option_map (λ i. i + 1) (position_of ks key)
-position-tail k ks key other = ap (λ b. cond b (Some 0) (option_map (λ i. i + 1) (position_of ks key))) other
-
 -- the first of equal keys
 pub position-first : (keys : List (List ℕ)) (key : List ℕ) (i : ℕ) → i < length keys → get_or keys i [] ≡ key
     → ((j : ℕ) → j < i → get_or keys j [] ≢ key) → position_of keys key ≡ Some i
 position-first [] key i li e before = absurd (omega arith)
-position-first (k ∷ ks) key zero li e before = position-head k ks key ((bytes_decides k key).1 e)
+position-first (k ∷ ks) key zero li e before = simp ((bytes_decides k key).1 e)
 position-first (k ∷ ks) key (suc i) li e before = elim (same_key k key) [
   | inl s ↦ absurd (before 0 (omega arith) s.1)
-  | inr d ↦ position-tail k ks key d.0
-      ∙ (ap (option_map (λ i. i + 1)) (position-first ks key i (omega arith) e (λ j lj. before (suc j) (omega arith)))
-      ∙ ap Some (omega arith))
+  | inr d ↦ simp (d.0, position-first ks key i (omega arith) e (λ j lj. before (suc j) (omega arith))) (ap Some (omega arith))
 ]
 
 -- a key at no index has none
@@ -40,7 +29,7 @@ pub position-none : (keys : List (List ℕ)) (key : List ℕ) → ((j : ℕ) →
 position-none [] key missing = refl
 position-none (k ∷ ks) key missing = elim (same_key k key) [
   | inl s ↦ absurd (missing 0 (omega arith) s.1)
-  | inr d ↦ position-tail k ks key d.0 ∙ ap (option_map (λ i. i + 1)) (position-none ks key (λ j lj. missing (suc j) (omega arith)))
+  | inr d ↦ simp (d.0, position-none ks key (λ j lj. missing (suc j) (omega arith)))
 ]
 
 -- if keys are distinct, the index of a key is the one at which it is
@@ -49,47 +38,38 @@ pub position-distinct : (keys : List (List ℕ)) (key : List ℕ) (i : ℕ) → 
 position-distinct keys key i d li e = position-first keys key i li e
     (λ j lj same. let it : j ≡ i = apart keys d j i (omega arith) li (same ∙ sym e) in omega arith)
 
--- a key in the list has an index
-first-below : (keys : List (List ℕ)) (key : List ℕ) (j : ℕ) → j < length keys → get_or keys j [] ≡ key
-    → (i : ℕ) × (position_of keys key ≡ Some i)
-first-below [] key j lj e = absurd (omega arith)
-first-below (k ∷ ks) key zero lj e = (0, position-head k ks key ((bytes_decides k key).1 e))
-first-below (k ∷ ks) key (suc j) lj e = elim (same_key k key) [
-  | inl s ↦ (0, position-head k ks key s.0)
-  | inr d ↦ let rest = first-below ks key j (omega arith) e in
-      (rest.0 + 1, position-tail k ks key d.0 ∙ ap (option_map (λ i. i + 1)) rest.1)
-]
-
--- a key without an index is not in the list
-pub absent-from : (keys : List (List ℕ)) (key : List ℕ) → position_of keys key ≡ None → (j : ℕ) → j < length keys → get_or keys j [] ≢ key
-absent-from keys key none j lj e = let found = first-below keys key j lj e in let bad : None ≡ Some found.0 = sym none ∙ found.1 in cc
-
 -- an index that was incremented comes from one less
 shifted : (o : Option ℕ) (i : ℕ) → option_map (λ i. i + 1) o ≡ Some i → (j : ℕ) × (o ≡ Some j) × (suc j ≡ i)
 shifted None i e = cc
 shifted (Some j) i e = let more : j + 1 ≡ i = cc in (j, refl, omega (arith, more))
 
 -- and none comes from none
-unshifted : (o : Option ℕ) → option_map (λ i. i + 1) o ≡ None → o ≡ None
-unshifted None e = refl
-unshifted (Some j) e = cc
+none_shifted : (o : Option ℕ) → option_map (λ i. i + 1) o ≡ None → o ≡ None
+none_shifted None e = refl
+none_shifted (Some j) e = cc
 
 -- if a key has an index, it is the first key, or one further on than in the rest
 pub head_or_tail : (k : List ℕ) (ks : List (List ℕ)) (key : List ℕ) (i : ℕ) → position_of (k ∷ ks) key ≡ Some i
     → ((bytes_eq k key ≡ true) × (k ≡ key) × (0 ≡ i)) ⊎
     ((bytes_eq k key ≡ false) × (k ≢ key) × (j : ℕ) × (position_of ks key ≡ Some j) × (suc j ≡ i))
 head_or_tail k ks key i e = elim (same_key k key) [
-  | inl s ↦ let here : Some 0 ≡ Some i = sym (position-head k ks key s.0) ∙ e in inl (s.0, s.1, cc)
-  | inr d ↦ let rest = shifted (position_of ks key) i (sym (position-tail k ks key d.0) ∙ e) in inr (d.0, d.1, rest.0, rest.1, rest.2)
+  | inl s ↦ let here : Some 0 ≡ Some i = simp s.0 at e in inl (s.0, s.1, cc)
+  | inr d ↦ let rest = shifted (position_of ks key) i (simp d.0 at e) in inr (d.0, d.1, rest.0, rest.1, rest.2)
 ]
 
 -- if it has none, the first key is another, and the rest lack it too
 pub none_in : (k : List ℕ) (ks : List (List ℕ)) (key : List ℕ) → position_of (k ∷ ks) key ≡ None
     → (bytes_eq k key ≡ false) × (k ≢ key) × (position_of ks key ≡ None)
 none_in k ks key e = elim (same_key k key) [
-  | inl s ↦ let bad : ◌≡◌ {A = Option ℕ} (Some 0) None = sym (position-head k ks key s.0) ∙ e in cc
-  | inr d ↦ (d.0, d.1, unshifted (position_of ks key) (sym (position-tail k ks key d.0) ∙ e))
+  | inl s ↦ let bad : ◌≡◌ {A = Option ℕ} (Some 0) None = simp s.0 at e in cc
+  | inr d ↦ (d.0, d.1, none_shifted (position_of ks key) (simp d.0 at e))
 ]
+
+-- a key without an index is not in the list
+pub absent-from : (keys : List (List ℕ)) (key : List ℕ) → position_of keys key ≡ None → (j : ℕ) → j < length keys → get_or keys j [] ≢ key
+absent-from [] key none j lj e = omega arith
+absent-from (k ∷ ks) key none zero lj e = (none_in k ks key none).1 e
+absent-from (k ∷ ks) key none (suc j) lj e = absent-from ks key (none_in k ks key none).2 j (omega arith) e
 
 -- if a key is in the list, its index is found
 pub position-some : (keys : List (List ℕ)) (key : List ℕ) (i : ℕ) → position_of keys key ≡ Some i

@@ -1,12 +1,8 @@
 -- Another key at an index of a list of pairs.
-use Rattle.std.proofs.Common.{◌≡◌, ℕ, zero, suc, ◌<◌, inl, inr, arith, List, [], ◌∷◌, length, get_or, set, None, refl, sym, ap, subst, ◌∙◌}
-use Rattle.std.proofs.Common.{get_or-set_other, get_or-set_same}
-use Rattle.std.proofs.lemmas.Bool.{cases_eq}
-use Rattle.std.proofs.lemmas.List.{length-set}
-use Rattle.ijson_table.specs.Store.{at, keys_of, with_key, IsDistinct}
-use Rattle.ijson_table.proofs.pairs.DistinctKeys.{apart, distinct}
-use Rattle.ijson_table.proofs.pairs.KeyPositions.{absent-from}
-use Rattle.ijson_table.proofs.pairs.PairsByKey.{keys-length}
+use Rattle.std.proofs.Common.{◌≡◌, ◌≢◌, ℕ, zero, suc, ◌<◌, arith, List, [], ◌∷◌, length, get_or, set, None, refl, sym, ap}
+use Rattle.ijson_table.specs.Store.{at, keys_of, with_key, IsDistinct, Lacks}
+use Rattle.ijson_table.proofs.pairs.DistinctKeys.{lacks_from}
+use Rattle.ijson_table.proofs.pairs.KeyPositions.{absent-from, none_in}
 
 module _ {V : Type 0} where
   -- a pair that was read, with another key
@@ -22,27 +18,24 @@ module _ {V : Type 0} where
   keys-with_key (p ∷ ps) zero key = refl
   keys-with_key (p ∷ ps) (suc i) key = ap (λ ks. p.0 ∷ ks) (keys-with_key ps i key)
 
+  -- a key that none of the keys equals, nor the new one
+  lacks_with_key : (k : List ℕ) (pairs : List (List ℕ × V)) (i : ℕ) (key : List ℕ) → Lacks k (keys_of pairs) → k ≢ key
+      → Lacks k (keys_of (with_key pairs i key))
+  lacks_with_key k [] i key l other = tt
+  lacks_with_key k (p ∷ ps) zero key l other = (other, l.1)
+  lacks_with_key k (p ∷ ps) (suc i) key l other = (l.0, lacks_with_key k ps i key l.1 other)
+
   -- they are distinct if the key was missing
   pub distinct_with_key : (pairs : List (List ℕ × V)) (i : ℕ) (key : List ℕ) → IsDistinct (keys_of pairs) → i < length pairs
       → at pairs key ≡ None → IsDistinct (keys_of (with_key pairs i key))
-  distinct_with_key pairs i key d li missing =
-      let keys : List (List ℕ) = keys_of pairs in
-      let size : length (set keys i key) ≡ length keys = length-set keys i key in
-      let here : (j : ℕ) → j ≡ i → get_or (set keys i key) j [] ≡ key =
-      λ j a. ap (λ n. get_or (set keys i key) n []) a ∙ get_or-set_same keys i key [] (omega (arith, li, keys-length pairs)) in
-      subst IsDistinct (sym (keys-with_key pairs i key)) (distinct (set keys i key) (λ j k lj lk e. elim (cases_eq j i) [
-        | inl a ↦ elim (cases_eq k i) [
-          | inl b ↦ omega (arith, a, b)
-          | inr b ↦ absurd (absent-from keys key missing k (omega (arith, lk, size))
-              (sym (get_or-set_other keys i k key [] b) ∙ (sym e ∙ here j a)))
-        ]
-        | inr a ↦ elim (cases_eq k i) [
-          | inl b ↦ absurd (absent-from keys key missing j (omega (arith, lj, size))
-              (sym (get_or-set_other keys i j key [] a) ∙ (e ∙ here k b)))
-          | inr b ↦ apart keys d j k (omega (arith, lj, size)) (omega (arith, lk, size))
-              (sym (get_or-set_other keys i j key [] a) ∙ (e ∙ get_or-set_other keys i k key [] b))
-        ]
-      ]))
+  distinct_with_key [] i key d li missing = tt
+  distinct_with_key (p ∷ ps) zero key d li missing = (
+    lacks_from key (keys_of ps) (λ j lj same. absent-from (keys_of (p ∷ ps)) key missing (suc j) (omega arith) (sym same)),
+    d.1,
+  )
+  distinct_with_key (p ∷ ps) (suc i) key d li missing =
+      let none = none_in p.0 (keys_of ps) key missing in
+      (lacks_with_key p.0 ps i key d.0 none.1, distinct_with_key ps i key d.1 (omega arith) none.2)
 
   -- the same key changes nothing
   pub with_same_key : (pairs : List (List ℕ × V)) (i : ℕ) (key : List ℕ) → i < length pairs → get_or (keys_of pairs) i [] ≡ key

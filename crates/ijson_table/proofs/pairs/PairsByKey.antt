@@ -1,36 +1,16 @@
 -- Changes of a list of pairs keep distinct keys, their indices and their values.
-use Rattle.std.proofs.Common.{◌≡◌, ◌≢◌, ℕ, zero, suc, ◌+◌, ◌-◌, ◌<◌, ◌⊎◌, inl, inr, arith, List, [], ◌∷◌, ◌++◌, length, get_or, set, take}
-use Rattle.std.proofs.Common.{Some, None, cond, refl, sym, ap, subst, ◌∙◌, length-append, get_or-set_other, get_or-set_same, length-take}
-use Rattle.std.proofs.Math.ListN.{get_or-append}
-use Rattle.std.proofs.Math.Seq.{get_or-append_seam}
+use Rattle.std.proofs.Common.{◌≡◌, ◌≢◌, ℕ, zero, suc, ◌+◌, ◌-◌, ◌<◌, inl, inr, arith, List, [], ◌∷◌, ◌++◌, length, get_or, set, take}
+use Rattle.std.proofs.Common.{eqb, if◌then◌else◌, Some, None, refl, sym, ap, subst, ◌∙◌, get_or-set_other, length-take}
 use Rattle.std.specs.Prelude.{swap_remove, slice_get}
 use Rattle.std.specs.Cmp.Lexicographic.{bytes_decides}
 use Rattle.std.proofs.lemmas.Option.{get_or_from_slice_get, slice_get_read}
 use Rattle.std.proofs.lemmas.List.{get_or_default, get_or-take, length-set, length-map, get_or-map, take-set-le, take-map, map-set}
-use Rattle.std.proofs.lemmas.List.{map-append}
-use Rattle.std.proofs.lemmas.Bool.{cases_eq, cases_lt}
-use Rattle.ijson_table.specs.Store.{keys_of, at, lookup, put, swap_out, with_value, IsDistinct}
+use Rattle.ijson_table.specs.Store.{keys_of, at, lookup, put, swap_out, with_value, IsDistinct, Lacks}
 use Rattle.ijson_table.specs.laws.Store.{keys-with_value}
-use Rattle.ijson_table.proofs.pairs.KeyPositions.{absent-from, head_or_tail, none_in, position-none, position-some, same_key}
-use Rattle.ijson_table.proofs.pairs.DistinctKeys.{AreApart, apart, distinct}
-
--- distinct keys with a new one after them are distinct
-apart_pushed : (keys : List (List ℕ)) (key : List ℕ) → AreApart keys → ((j : ℕ) → j < length keys → get_or keys j [] ≢ key)
-    → AreApart (keys ++ key ∷ [])
-apart_pushed keys key are_apart missing i j li lj e =
-    let size : length (keys ++ key ∷ []) ≡ length keys + 1 = length-append keys (key ∷ []) in
-    let end : (k : ℕ) → k ≡ length keys → get_or (keys ++ key ∷ []) k [] ≡ key =
-    λ k is. ap (λ n. get_or (keys ++ key ∷ []) n []) is ∙ get_or-append_seam keys key [] [] in
-    elim (cases_lt i (length keys)) [
-      | inl a ↦ elim (cases_lt j (length keys)) [
-        | inl b ↦ are_apart i j a b (sym (get_or-append keys (key ∷ []) [] i a) ∙ (e ∙ get_or-append keys (key ∷ []) [] j b))
-        | inr b ↦ absurd (missing i a (sym (get_or-append keys (key ∷ []) [] i a) ∙ (e ∙ end j (omega arith))))
-      ]
-      | inr a ↦ elim (cases_lt j (length keys)) [
-        | inl b ↦ absurd (missing j b (sym (get_or-append keys (key ∷ []) [] j b) ∙ (sym e ∙ end i (omega arith))))
-        | inr b ↦ omega arith
-      ]
-    ]
+use Rattle.ijson_table.proofs.pairs.KeyPositions.{head_or_tail, none_in, position-none, position-some, same_key}
+use Rattle.ijson_table.proofs.pairs.DistinctKeys.{apart, distinct}
+use Rattle.std.proofs.lemmas.Bool.Decides.{nat_tests}
+use Rattle.std.proofs.lemmas.Grind.{get_or-set_at}
 
 module _ {V : Type 0} where
   -- the numbers of keys and of pairs are equal
@@ -70,10 +50,8 @@ module _ {V : Type 0} where
       → put pairs key value ≡ with_value pairs i value
   put-present [] i key value e = cc
   put-present (pair ∷ pairs) i key value e = elim (head_or_tail pair.0 (keys_of pairs) key i e) [
-    | inl s ↦ ap (λ b. cond b ((pair.0, value) ∷ pairs) (pair ∷ put pairs key value)) s.0
-        ∙ ap (λ n. with_value (pair ∷ pairs) n value) s.2
-    | inr d ↦ ap (λ b. cond b ((pair.0, value) ∷ pairs) (pair ∷ put pairs key value)) d.0
-        ∙ (ap (λ ps. pair ∷ ps) (put-present pairs d.2 key value d.3) ∙ ap (λ n. with_value (pair ∷ pairs) n value) d.4)
+    | inl s ↦ simp s.0 (ap (λ n. with_value (pair ∷ pairs) n value) s.2)
+    | inr d ↦ simp (d.0, put-present pairs d.2 key value d.3) (ap (λ n. with_value (pair ∷ pairs) n value) d.4)
   ]
 
   -- a new key is appended
@@ -81,9 +59,7 @@ module _ {V : Type 0} where
       → put pairs key value ≡ pairs ++ (key, value) ∷ []
   put-absent [] key value e = refl
   put-absent (pair ∷ pairs) key value e =
-      let lacks = none_in pair.0 (keys_of pairs) key e in
-      ap (λ b. cond b ((pair.0, value) ∷ pairs) (pair ∷ put pairs key value)) lacks.0
-      ∙ ap (λ ps. pair ∷ ps) (put-absent pairs key value lacks.2)
+      let lacks = none_in pair.0 (keys_of pairs) key e in simp (lacks.0, put-absent pairs key value lacks.2)
 
   -- `swap_remove` of std is this removal
   pub swap_out-is : (pairs : List (List ℕ × V)) (i : ℕ) (d : List ℕ × V) → i < length pairs → swap_remove pairs i d ≡ swap_out pairs i
@@ -99,41 +75,20 @@ module _ {V : Type 0} where
   keys-swap_out [] i li = absurd (omega arith)
   keys-swap_out (pair ∷ pairs) i li =
       let last : ℕ = length (pair ∷ pairs) - 1 in
-      let x : List ℕ × V = get_or (pair ∷ pairs) last pair in
-      ap keys_of (sym (swap_out-is (pair ∷ pairs) i pair li))
-      ∙ (sym (take-map (λ p. p.0) last (set (pair ∷ pairs) i x))
-      ∙ (ap (take last) (map-set (λ p. p.0) (pair ∷ pairs) i x)
-      ∙ ap (λ k. take last (set (keys_of (pair ∷ pairs)) i k)) (sym (get_or-map (λ p. p.0) (pair ∷ pairs) last pair [] (omega arith)))))
+      ap keys_of (sym (swap_out-is (pair ∷ pairs) i pair li)) ∙ simp (← take-map, map-set, key_at (pair ∷ pairs) last pair (omega arith))
 
   -- they are one less
   pub length-swap_out : (pairs : List (List ℕ × V)) (i : ℕ) → i < length pairs → length (keys_of (swap_out pairs i)) + 1 ≡ length pairs
-  length-swap_out pairs i li = omega (
-    arith,
-    ap length (keys-swap_out pairs i li),
-    length-take (length pairs - 1)
-        (set (keys_of pairs) i (get_or (keys_of pairs) (length pairs - 1) [])),
-    length-set (keys_of pairs) i
-        (get_or (keys_of pairs) (length pairs - 1) []),
-    keys-length pairs,
-  )
+  length-swap_out pairs i li = simp (keys-swap_out pairs i li, length-take, length-set, keys-length) (omega (arith, li))
 
-  -- the old index of each remaining key: the last one takes the index of the removed one
+  -- each is an old one: the last takes the index of the removed one
   came_from : (pairs : List (List ℕ × V)) (i j : ℕ) → i < length pairs → j + 1 < length pairs
-      → (k : ℕ) × (k < length pairs) × (get_or (keys_of (swap_out pairs i)) j [] ≡ get_or (keys_of pairs) k []) ×
-      (((j ≡ i) × (k + 1 ≡ length pairs)) ⊎ ((j ≢ i) × (k ≡ j)))
+      → get_or (keys_of (swap_out pairs i)) j [] ≡ get_or (keys_of pairs) (if eqb j i then length pairs - 1 else j) []
   came_from pairs i j li lj =
       let keys = keys_of pairs in
       let last : List ℕ = get_or keys (length pairs - 1) [] in
       let read = ap (λ ks. get_or ks j []) (keys-swap_out pairs i li) ∙ get_or-take (length pairs - 1) (set keys i last) j [] (omega arith) in
-      elim (cases_eq j i) [
-        | inl e ↦ (
-          length pairs - 1,
-          omega arith,
-          read ∙ (ap (λ n. get_or (set keys i last) n []) e ∙ get_or-set_same keys i last [] (omega (arith, keys-length pairs))),
-          inl (e, omega arith),
-        )
-        | inr ne ↦ (j, omega arith, read ∙ get_or-set_other keys i j last [] ne, inr (ne, refl))
-      ]
+      grind (arith, nat_tests, read, get_or-set_at, get_or-set_other, keys-length pairs)
 
   -- and they are distinct
   pub distinct_swapped : (pairs : List (List ℕ × V)) (i : ℕ) → IsDistinct (keys_of pairs) → i < length pairs
@@ -141,56 +96,52 @@ module _ {V : Type 0} where
   distinct_swapped pairs i d li =
       let size = length-swap_out pairs i li in
       distinct (keys_of (swap_out pairs i)) (λ j l lj ll e.
-      let a = came_from pairs i j li (omega arith) in
-      let b = came_from pairs i l li (omega arith) in
-      let same : a.0 ≡ b.0 = apart (keys_of pairs) d a.0 b.0 (omega (arith, keys-length pairs, a.1))
-      (omega (arith, keys-length pairs, b.1)) (sym a.2 ∙ (e ∙ b.2)) in
-      elim a.3 [
-        | inl x ↦ elim b.3 [ inl y ↦ omega (arith, x, y) | inr y ↦ omega (arith, x, y) ]
-        | inr x ↦ elim b.3 [ inl y ↦ omega (arith, x, y) | inr y ↦ omega (arith, x, y) ]
-      ])
+      let old : ℕ → ℕ = λ n. if eqb n i then length pairs - 1 else n in
+      let below : (n : ℕ) → n + 1 < length pairs → old n < length (keys_of pairs) = λ n ln. grind (arith, nat_tests, keys-length pairs) in
+      let same : old j ≡ old l = apart (keys_of pairs) d (old j) (old l) (below j (omega arith)) (below l (omega arith))
+      (sym (came_from pairs i j li (omega arith)) ∙ (e ∙ came_from pairs i l li (omega arith))) in
+      grind (arith, nat_tests, same, size))
 
   -- the removed key is missing
   pub swapped_lacks : (pairs : List (List ℕ × V)) (i : ℕ) → IsDistinct (keys_of pairs) → i < length pairs
       → at (swap_out pairs i) (get_or (keys_of pairs) i []) ≡ None
   swapped_lacks pairs i d li = position-none (keys_of (swap_out pairs i)) (get_or (keys_of pairs) i []) (λ j lj e.
-      let a = came_from pairs i j li (omega (arith, length-swap_out pairs i li)) in
-      let same : a.0 ≡ i = apart (keys_of pairs) d a.0 i (omega (arith, keys-length pairs, a.1)) (omega (arith, keys-length pairs, li))
-      (sym a.2 ∙ e) in
-      elim a.3 [
-        | inl x ↦ omega (arith, x, same, lj, length-swap_out pairs i li)
-        | inr x ↦ omega (arith, x, same)
-      ])
+      let lj' : j + 1 < length pairs = omega (arith, length-swap_out pairs i li) in
+      let same : (if eqb j i then length pairs - 1 else j) ≡ i = apart (keys_of pairs) d (if eqb j i then length pairs - 1 else j) i
+      (grind (arith, nat_tests, keys-length pairs)) (omega (arith, keys-length pairs)) (sym (came_from pairs i j li lj') ∙ e) in
+      grind (arith, nat_tests, same))
+
+  -- a key that differs from one more is still lacking
+  lacks_pushed : (key : List ℕ) (pairs : List (List ℕ × V)) (pair : List ℕ × V) → Lacks key (keys_of pairs) → key ≢ pair.0
+      → Lacks key (keys_of (pairs ++ pair ∷ []))
+  lacks_pushed key [] pair l other = (other, tt)
+  lacks_pushed key (p ∷ pairs) pair l other = (l.0, lacks_pushed key pairs pair l.1 other)
 
   -- with a new key after them, keys are distinct
   pub distinct_pushed : (pairs : List (List ℕ × V)) (key : List ℕ) (value : V) → IsDistinct (keys_of pairs) → at pairs key ≡ None
       → IsDistinct (keys_of (pairs ++ (key, value) ∷ []))
-  distinct_pushed pairs key value d missing =
-      subst IsDistinct (sym (map-append (λ p. p.0) pairs ((key, value) ∷ [])))
-      (distinct (keys_of pairs ++ key ∷ []) (apart_pushed (keys_of pairs) key (apart (keys_of pairs) d)
-      (absent-from (keys_of pairs) key missing)))
+  distinct_pushed [] key value d missing = (tt, tt)
+  distinct_pushed (pair ∷ pairs) key value d missing =
+      let lacks = none_in pair.0 (keys_of pairs) key missing in
+      (lacks_pushed pair.0 pairs (key, value) d.0 lacks.1, distinct_pushed pairs key value d.1 lacks.2)
 
   -- a lookup passes a pair with another key
   lookup-other : (pair : List ℕ × V) (pairs : List (List ℕ × V)) (key : List ℕ) → pair.0 ≢ key
       → lookup key (pair ∷ pairs) ≡ lookup key pairs
   lookup-other pair pairs key other = elim (same_key key pair.0) [
     | inl s ↦ absurd (other (sym s.1))
-    | inr d ↦ ap (λ b. cond b (Some pair.1) (lookup key pairs)) d.0
+    | inr d ↦ simp d.0
   ]
 
   -- the value at the index of a key is that of the key
   pub lookup-position : (pairs : List (List ℕ × V)) (key : List ℕ) (i : ℕ) (pair : List ℕ × V) → at pairs key ≡ Some i → i < length pairs
       → pair ≡ get_or pairs i pair → lookup key pairs ≡ Some pair.1
-  lookup-position [] key i pair e li is = absurd (omega arith)
-  lookup-position (p ∷ ps) key zero pair e li is = elim (head_or_tail p.0 (keys_of ps) key 0 e) [
-    | inl s ↦ ap (λ b. cond b (Some p.1) (lookup key ps)) ((bytes_decides key p.0).1 (sym s.1)) ∙ ap (λ q. Some q.1) (sym is)
-    | inr d ↦ absurd (omega (arith, d.4))
-  ]
-  lookup-position (p ∷ ps) key (suc i) pair e li is = elim (head_or_tail p.0 (keys_of ps) key (suc i) e) [
-    | inl s ↦ absurd (omega (arith, s.2))
-    | inr d ↦
-        let same : d.2 ≡ i = omega (arith, d.4) in
-        lookup-other p ps key d.1 ∙ lookup-position ps key i pair (subst (λ n. at ps key ≡ Some n) same d.3) (omega arith) is
+  lookup-position [] key i pair e li is = cc
+  lookup-position (p ∷ ps) key i pair e li is = elim (head_or_tail p.0 (keys_of ps) key i e) [
+    | inl s ↦
+        let here : pair ≡ p = is ∙ ap (λ n. get_or (p ∷ ps) n pair) (sym s.2) in
+        simp ((bytes_decides key p.0).1 (sym s.1)) (ap (λ q. Some q.1) (sym here))
+    | inr d ↦ lookup-other p ps key d.1 ∙ lookup-position ps key d.2 pair d.3 (omega (arith, d.4, li)) (is ∙ ap (λ n. get_or (p ∷ ps) n pair) (sym d.4))
   ]
 
   -- so is that of a pair that was read

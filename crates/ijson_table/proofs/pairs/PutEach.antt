@@ -1,7 +1,7 @@
 -- Pairs inserted in order.
 use Rattle.std.proofs.Common.{◌≡◌, ◌≢◌, ℕ, ◌+◌, ◌<◌, ◌≤◌, inl, inr, arith, List, [], ◌∷◌, ◌++◌, length, take, drop, Option, Some, None}
-use Rattle.std.proofs.Common.{Result, Ok, Err, cond, true, false, refl, sym, ap, subst, ◌∙◌, append_assoc}
-use Rattle.std.specs.Prelude.{bytes_eq, option_map, IsOk}
+use Rattle.std.proofs.Common.{Result, Ok, Err, refl, sym, ap, subst, ◌∙◌, append_assoc}
+use Rattle.std.specs.Prelude.{IsOk}
 use Rattle.std.proofs.lemmas.List.{append-nil, take-append-drop}
 use Rattle.ijson_table.specs.declared.store.RefusedPair.{RefusedPair}
 use Rattle.ijson_table.specs.declared.store.ReserveError.{ReserveError}
@@ -9,7 +9,7 @@ use Rattle.ijson_table.specs.declared.store.ReserveError.TheVariants.{Memory, To
 use Rattle.ijson_table.specs.Growth.{wanted, Ungrown}
 use Rattle.ijson_table.specs.Inserts.{Inserts}
 use Rattle.ijson_table.specs.Store.{at, keys_of, put, put_each, IsDistinct, Lacks}
-use Rattle.ijson_table.proofs.pairs.KeyPositions.{position-tail, same_key}
+use Rattle.ijson_table.proofs.pairs.KeyPositions.{same_key}
 use Rattle.ijson_table.specs.laws.Store.{keys-with_value}
 use Rattle.ijson_table.proofs.pairs.PairsByKey.{distinct_pushed, put-absent, put-present}
 use Rattle.ijson_table.proofs.probing.KeyHashes.{had_room}
@@ -37,7 +37,7 @@ module _ {V : Type 0} where
   missing [] pair more d = refl
   missing (p ∷ pairs) pair more d = elim (same_key p.0 pair.0) [
     | inl s ↦ absurd (lacks_middle p.0 pairs pair more d.0 s.1)
-    | inr n ↦ position-tail p.0 (keys_of pairs) pair.0 n.0 ∙ ap (option_map (λ i. i + 1)) (missing pairs pair more d.1)
+    | inr n ↦ simp (n.0, missing pairs pair more d.1)
   ]
 
   -- if all keys are distinct, the pairs are appended
@@ -64,9 +64,8 @@ module _ {V : Type 0} where
       → IsDistinct (keys_of (put pairs key value))
   put-distinct pairs key value d =
       elim (at pairs key) as (λ o. at pairs key ≡ o → IsDistinct (keys_of (put pairs key value))) [
-        | None ↦ λ e. subst (λ ps. IsDistinct (keys_of ps)) (sym (put-absent pairs key value e)) (distinct_pushed pairs key value d e)
-        | Some i ↦ λ e. subst (λ ps. IsDistinct (keys_of ps)) (sym (put-present pairs i key value e))
-            (subst IsDistinct (sym (keys-with_value pairs i value)) d)
+        | None ↦ λ e. rw (put-absent pairs key value e) (distinct_pushed pairs key value d e)
+        | Some i ↦ λ e. rw (put-present pairs i key value e, keys-with_value pairs i value) d
       ] refl
 
   -- so does inserting all of a list
@@ -77,11 +76,10 @@ module _ {V : Type 0} where
   -- an insertion adds at most one
   pub put-length : (pairs : List (List ℕ × V)) (key : List ℕ) (value : V) → length (put pairs key value) ≤ length pairs + 1
   put-length [] key value = omega arith
-  put-length (pair ∷ pairs) key value = elim (bytes_eq pair.0 key) as
-      (λ b. length (cond b ((pair.0, value) ∷ pairs) (pair ∷ put pairs key value)) ≤ length (pair ∷ pairs) + 1) [
-        | true ↦ omega arith
-        | false ↦ omega (arith, put-length pairs key value)
-      ]
+  put-length (pair ∷ pairs) key value = elim (same_key pair.0 key) [
+    | inl s ↦ simp s.0 (omega arith)
+    | inr d ↦ simp d.0 (omega (arith, put-length pairs key value))
+  ]
 
   -- if there is spare capacity, an insertion does not grow
   pub put_in_room : (pairs : List (List ℕ × V)) (c : ℕ) (key : List ℕ) (value : V) (answer : Result (Option V) (RefusedPair V))

@@ -1,5 +1,5 @@
 -- Pairs inserted in order within their list: the first k have distinct keys, and those from p on are left.
-use Rattle.std.proofs.Common.{◌≡◌, ℕ, ◌+◌, ◌<◌, ◌≤◌, arith, List, [], ◌∷◌, ◌++◌, length, get_or, set, take, drop, Some, None, sym, ap, ap₂, ◌∙◌}
+use Rattle.std.proofs.Common.{◌≡◌, ℕ, ◌+◌, ◌<◌, ◌≤◌, arith, List, [], ◌∷◌, length, get_or, set, take, drop, Some, None, sym, ap, ap₂, ◌∙◌, refl}
 use Rattle.std.proofs.Common.{length-take-le, le_of_lt}
 use Rattle.std.specs.Prelude.{swap}
 use Rattle.std.proofs.Math.Seq.{take-set-lt}
@@ -12,16 +12,14 @@ use Rattle.ijson_table.proofs.pairs.PairsByKey.{key_at, position_within, put-abs
 
 module _ {X : Type 0} where
   -- an exchange behind the first n
-  take-swap : (xs : List X) (n i j : ℕ) → n ≤ i → n ≤ j → i < length xs → take n (swap xs i j) ≡ take n xs
-  take-swap [] n i j ni nj li = absurd (omega arith)
-  take-swap (x ∷ xs) n i j ni nj li =
-      take-set-le n (set (x ∷ xs) i (get_or (x ∷ xs) j x)) j (get_or (x ∷ xs) i x) nj ∙ take-set-le n (x ∷ xs) i (get_or (x ∷ xs) j x) ni
+  take-swap : (xs : List X) (n i j : ℕ) → n ≤ i → n ≤ j → take n (swap xs i j) ≡ take n xs
+  take-swap [] n i j ni nj = refl
+  take-swap (x ∷ xs) n i j ni nj = simp take-set-le
 
   -- an exchange among the first n
-  drop-swap : (xs : List X) (n i j : ℕ) → i < n → j < n → i < length xs → drop n (swap xs i j) ≡ drop n xs
-  drop-swap [] n i j ni nj li = absurd (omega arith)
-  drop-swap (x ∷ xs) n i j ni nj li =
-      drop-set-lt n (set (x ∷ xs) i (get_or (x ∷ xs) j x)) j (get_or (x ∷ xs) i x) nj ∙ drop-set-lt n (x ∷ xs) i (get_or (x ∷ xs) j x) ni
+  drop-swap : (xs : List X) (n i j : ℕ) → i < n → j < n → drop n (swap xs i j) ≡ drop n xs
+  drop-swap [] n i j ni nj = refl
+  drop-swap (x ∷ xs) n i j ni nj = simp drop-set-lt
 
 -- the pair at p is put behind the first k
 pub record Moved {V : Type 0} (old new : List (List ℕ × V)) (k p : ℕ) : Type 0 where
@@ -43,11 +41,11 @@ moved (x ∷ xs) new k p kp lp is =
 module _ {V : Type 0} (old new : List (List ℕ × V)) (k p : ℕ) (kp : k ≤ p) (lp : p < length old) (is : new ≡ swap old k p) where
   -- the first k stay
   pub moved_first : take k new ≡ take k old
-  moved_first = ap (take k) is ∙ take-swap old k k p (omega arith) kp (omega (arith, kp, lp))
+  moved_first = ap (take k) is ∙ take-swap old k k p (omega arith) kp
 
   -- so do those after p
   pub moved_left : drop (p + 1) new ≡ drop (p + 1) old
-  moved_left = ap (drop (p + 1)) is ∙ drop-swap old (p + 1) k p (omega (arith, kp)) (omega arith) (omega (arith, kp, lp))
+  moved_left = ap (drop (p + 1)) is ∙ drop-swap old (p + 1) k p (omega (arith, kp)) (omega arith)
 
   within : k < length new
   within = omega (arith, kp, lp, ap length is, length-swap old k p)
@@ -66,9 +64,8 @@ module _ {V : Type 0} (old new : List (List ℕ × V)) (k p : ℕ) (kp : k ≤ p
   -- if its key is new, there is one more
   pub one_more : at (take k new) (get_or (keys_of new) k []) ≡ None → take (k + 1) new ≡ put (take k old) next.pair.0 next.pair.1
   one_more missing =
-      take_more new k next.pair within ∙ (ap (λ x. take k new ++ x ∷ []) (sym next.is)
-      ∙ (sym (put-absent (take k new) next.pair.0 next.pair.1 (ap (at (take k new)) (sym next_key) ∙ missing))
-      ∙ ap (λ ps. put ps next.pair.0 next.pair.1) moved_first))
+      let appended = put-absent (take k new) next.pair.0 next.pair.1 (ap (at (take k new)) (sym next_key) ∙ missing) in
+      cc (take_more new k next.pair within, next.is, appended, moved_first)
 
   pub put_next : at (take k new) (get_or (keys_of new) k []) ≡ None
       → put_each (take (k + 1) new) (drop (p + 1) new) ≡ put_each (take k old) (drop p old)
@@ -84,13 +81,13 @@ module _ {V : Type 0} (old new : List (List ℕ × V)) (k p : ℕ) (kp : k ≤ p
         let first : List (List ℕ × V) = take k new in
         let there : i < length first = omega (arith, before, length-take-le k new (le_of_lt within)) in
         let pair : List ℕ × V = get_or first i next.pair in
-        let same : pair.0 ≡ next.pair.0 = sym (key_at first i next.pair there)
-        ∙ ((position-some (keys_of first) (get_or (keys_of new) k []) i found).1 ∙ next_key) in
-        ap (take k) (sym (swap_is new i k next.pair (omega (arith, before, within)) within))
-        ∙ (take-set-le k (set new i (get_or new k next.pair)) k (get_or new i next.pair) (omega arith)
-        ∙ (take-set-lt k new i (get_or new k next.pair) before
-        ∙ (ap (set first i) (sym next.is ∙ ap (λ key. (key, next.pair.1)) (sym same))
-        ∙ set-value first i pair next.pair.1 there (get_or_default first i next.pair pair there))))
+        let same : next.pair ≡ (pair.0, next.pair.1) = ap (λ key. (key, next.pair.1))
+        (sym (sym (key_at first i next.pair there) ∙ ((position-some (keys_of first) (get_or (keys_of new) k []) i found).1 ∙ next_key))) in
+        let swapped = swap_is new i k next.pair (omega (arith, before, within)) within in
+        let last = take-set-le k (set new i (get_or new k next.pair)) k (get_or new i next.pair) (omega arith) in
+        let put = take-set-lt k new i (get_or new k next.pair) before in
+        let value = set-value first i pair next.pair.1 there (get_or_default first i next.pair pair there) in
+        cc (swapped, last, put, value, next.is, same)
 
     -- with the same keys,
     pub over_keys : keys_of (take k (swap new i k)) ≡ keys_of (take k old)
@@ -98,11 +95,12 @@ module _ {V : Type 0} (old new : List (List ℕ × V)) (k p : ℕ) (kp : k ≤ p
 
     -- and is inserted
     pub over_put : take k (swap new i k) ≡ put (take k old) next.pair.0 next.pair.1
-    over_put = over ∙ (sym (put-present (take k new) i next.pair.0 next.pair.1 (ap (at (take k new)) (sym next_key) ∙ found))
-        ∙ ap (λ ps. put ps next.pair.0 next.pair.1) moved_first)
+    over_put =
+        let replaced = put-present (take k new) i next.pair.0 next.pair.1 (ap (at (take k new)) (sym next_key) ∙ found) in
+        cc (over, replaced, moved_first)
 
     pub over_left : drop (p + 1) (swap new i k) ≡ drop (p + 1) new
-    over_left = drop-swap new (p + 1) i k (omega (arith, before, kp)) (omega (arith, kp)) (omega (arith, before, within))
+    over_left = drop-swap new (p + 1) i k (omega (arith, before, kp)) (omega (arith, kp))
 
     pub put_over : put_each (take k (swap new i k)) (drop (p + 1) (swap new i k)) ≡ put_each (take k old) (drop p old)
     put_over = ap₂ put_each over_put over_left ∙ next_left

@@ -1,18 +1,29 @@
-use Rattle.std.proofs.Common.{◌≡◌, length, refl, ap, sym, ◌∙◌, subst, None}
+use Rattle.std.proofs.Common.{◌≡◌, length, refl, ap, sym, ◌∙◌, subst, Some, None}
 use Rattle.ijson_table.specs.Growth.{Grown}
-use Rattle.ijson_table.specs.Store.{at}
+use Rattle.ijson_table.specs.Store.{at, with_value}
 use Rattle.ijson_table.proofs.pairs.NewPairs.{put_last}
 use Rattle.ijson_table.proofs.pairs.PairsByKey.{lookup-absent, position_within}
+use Rattle.ijson_table.proofs.pairs.Replaced.{replaced}
+use Rattle.ijson_table.proofs.store.insert.Goals.{In-Some}
 use Rattle.ijson_table.proofs.store.insert.Goals as goal
 
-pub replace_at-requires : goal.replace_at-requires
-replace_at-requires g c =
-    let before = g.P.PairStore.pairs c.args.store.now in
-    position_within before c.args.key c.in-Some.at (ap (at before) (sym c.as_str.ensures) ∙ sym c.in-Some.ensures)
+-- the index at which the key was found
+found : (g : _) (c : In-Some g) → at (g.P.PairStore.pairs c.args.store.now) c.args.key ≡ Some c.in-Some.at
+found g c = ap (at (g.P.PairStore.pairs c.args.store.now)) (sym c.as_str.ensures) ∙ sym c.in-Some.ensures
+
+pub value_mut-requires : goal.value_mut-requires
+value_mut-requires g c = position_within (g.P.PairStore.pairs c.args.store.now) c.args.key c.in-Some.at
+    (found g (goal.at.value_mut-requires g c).In-Some)
 
 pub returns-in-Some : goal.returns-in-Some
-returns-in-Some g c = c.replace_at.ensures.inserts c.args.key (ap (at (g.P.PairStore.pairs c.args.store.now)) (sym c.as_str.ensures)
-    ∙ sym c.in-Some.ensures)
+returns-in-Some g c =
+    let before = g.P.PairStore.pairs c.args.store.now in
+    let law = g.met.P.PairStore.set_value_is c.args.store.now c.in-Some.at c.replace.new.dest in
+    let told = c.value_mut.ensures.value in
+    let kept = replaced before _ c.in-Some.at (told.0, c.value_mut.result.now) c.args.key c.args.value c.replace.result told.1
+    c.replace.ensures.value (law.0 ∙ ap (with_value before c.in-Some.at) c.replace.ensures.after)
+    (found g (goal.at.returns-in-Some g c).In-Some) in
+    (kept.0, kept.1, law.1)
 
 pub returns-in-Err : goal.returns-in-Err
 returns-in-Err g c =

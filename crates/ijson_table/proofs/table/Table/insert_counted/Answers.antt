@@ -1,16 +1,31 @@
-use Rattle.std.proofs.Common.{◌<◌, length, arith, ap, refl, sym, ◌∙◌, subst}
+use Rattle.std.proofs.Common.{◌≡◌, ◌<◌, Some, None, length, arith, rules, ap, refl, sym, ◌∙◌, subst}
 use Rattle.std.specs.Prelude.{vec_capacity}
 use Rattle.ijson_table.specs.Growth.{Grown}
 use Rattle.ijson_table.specs.Placed.{Placed}
-use Rattle.ijson_table.specs.Store.{at}
+use Rattle.ijson_table.specs.Store.{at, with_value}
 use Rattle.ijson_table.proofs.pairs.NewPairs.{put_last}
 use Rattle.ijson_table.proofs.pairs.PairsByKey.{lookup-absent, position_within}
 use Rattle.ijson_table.proofs.probing.KeyHashes.{had_room}
+use Rattle.ijson_table.proofs.pairs.Replaced.{replaced}
+use Rattle.ijson_table.proofs.table.Table.insert_counted.Goals.{After-reserve, In-Found}
 use Rattle.ijson_table.proofs.table.Table.insert_counted.Goals as goal
 
-pub replace_at-requires : goal.replace_at-requires
-replace_at-requires g c = position_within c.args.self.now.store.pairs c.args.key c.in-Found.at
-    (ap (at c.args.self.now.store.pairs) (sym c.as_str-2.ensures) ∙ c.in-Found.ensures.ends)
+-- the index at which the key was found
+found : (g : _) (c : In-Found g) → at c.args.self.now.store.pairs c.args.key ≡ Some c.in-Found.at
+found g c = ap (at c.args.self.now.store.pairs) (sym c.as_str-2.ensures) ∙ c.in-Found.ensures.ends
+
+pub value_mut-requires : goal.value_mut-requires
+value_mut-requires g c = position_within c.args.self.now.store.pairs c.args.key c.in-Found.at
+    (found g (goal.at.value_mut-requires g c).In-Found)
+
+pub returns-in-Found-clause-inserts : goal.returns-in-Found-clause-inserts
+returns-in-Found-clause-inserts g c =
+    let before = c.args.self.now.store.pairs in
+    let told = c.value_mut.ensures.value in
+    let kept = replaced before _ c.in-Found.at (told.0, c.value_mut.result.now) c.args.key c.args.value c.replace.result told.1
+    c.replace.ensures.value (ap (with_value before c.in-Found.at) c.replace.ensures.after)
+    (found g (goal.at.returns-in-Found-clause-inserts g c).In-Found) in
+    (kept.0, kept.1, refl)
 
 pub returns-in-Vacant-clause-inserts : goal.returns-in-Vacant-clause-inserts
 returns-in-Vacant-clause-inserts g c =
@@ -23,4 +38,26 @@ returns-in-Vacant-clause-inserts g c =
       subst (Grown (length pairs) c.args.self.now.store.capacity 1) (sym c.push_at.ensures.capacity)
           (subst (λ (t : Placed g.row.V.Denot). Grown (length t.store.pairs) t.store.capacity 1 t.store.capacity) c.self.view_is
           (had_room (length c.self.inside.pairs.items) (vec_capacity c.self.inside.pairs) room)),
+    )
+
+-- a key that is not found is missing
+missing : (g : _) (c : After-reserve g) → at c.args.self.now.store.pairs c.args.key ≡ None
+missing g c = search rules
+
+pub returns-in-Err-clause-inserts : goal.returns-in-Err-clause-inserts
+returns-in-Err-clause-inserts g c = (
+  lookup-absent c.args.self.now.store.pairs c.args.key (missing g (goal.at.returns-in-Err-clause-inserts g c).After-reserve),
+  refl,
+  refl,
+  c.in-Err.ensures.pairs,
+  c.in-Err.ensures.grown,
+)
+
+pub returns-in_default-clause-inserts : goal.returns-in_default-clause-inserts
+returns-in_default-clause-inserts g c =
+    let none = missing g (goal.at.returns-in_default-clause-inserts g c).After-reserve in (
+      lookup-absent c.args.self.now.store.pairs c.args.key none,
+      put_last c.args.key c.args.value c.in_default.ensures.pairs c.push_hashed.ensures.pairs refl none,
+      subst (Grown (length c.args.self.now.store.pairs) c.args.self.now.store.capacity 1) (sym c.push_hashed.ensures.capacity)
+          c.in_default.ensures.grown,
     )
