@@ -1,9 +1,8 @@
-use Rattle.std.proofs.Common.{refl, ◌≢◌, ◌<◌, ◌-◌, ℕ, length, get_or, None, arith, sym, ap, ◌∙◌}
+use Rattle.std.proofs.Common.{◌≢◌, ◌<◌, ◌-◌, ℕ, length, get_or, None, arith, sym, ap, ◌∙◌}
 use Rattle.ijson_table.specs.Store.{keys_of}
 use Rattle.ijson_table.specs.private.KeyOrder.{IsEarlier}
 use Rattle.ijson_table.specs.private.SlotHashes.{blank, position_in}
 use Rattle.ijson_table.proofs.firsts.KeyRuns.{all_told, each_stands, goes_on, is_position, other_key, same_key}
-use Rattle.ijson_table.proofs.pairs.PairsByKey.{keys-length}
 use Rattle.ijson_table.proofs.sorting.earlier.earlier_positions.Given.{Over}
 use Rattle.ijson_table.proofs.sorting.earlier.earlier_positions.Goals as goal
 use Rattle.ijson_table.proofs.sorting.earlier.earlier_positions.Goals.{then-not-has_same_key, else-not-has_same_key, Start}
@@ -11,16 +10,6 @@ use Rattle.ijson_table.proofs.sorting.earlier.earlier_positions.Goals.{then-not-
 -- each entry has an index
 stands : (g : Over) (c : Start g) (k : ℕ) → k < length c.args.sorted.now → position_in (get_or c.args.sorted.now k blank) ≢ None
 stands g c = each_stands (keys_of c.args.pairs.now) c.args.sorted.now c.requires.entries
-
-pub loop-entry-init : goal.loop-entry-init
-loop-entry-init g c = record {
-  so_far = record {
-    count = omega (arith, c.in_ok-earlier.ensures.len, c.in_ok-earlier.earlier.ok.0, keys-length c.args.pairs.now);
-    last_is = refl;
-    told = λ j p lj at. absurd (omega arith);
-  };
-  looked = omega arith;
-}
 
 pub resident-requires : goal.resident-requires
 resident-requires g c =
