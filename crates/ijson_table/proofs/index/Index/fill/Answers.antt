@@ -1,7 +1,5 @@
 use Rattle.std.proofs.Common.{◌≡◌, ◌%◌, ◌+◌, ◌<◌, ◌≤◌, ℕ, List, length, get_or, arith, ap, sym, ◌∙◌, subst}
 use Rattle.std.specs.List.{All}
-use Rattle.std.proofs.lemmas.Bool.Decides.{nat_tests}
-use Rattle.std.proofs.lemmas.List.{nil_from_length}
 use Rattle.ijson_table.specs.declared.slot.Slot.{Slot}
 use Rattle.ijson_table.specs.private.HashIndex.{HashIndex}
 use Rattle.ijson_table.specs.private.HomeOrder.{home_in, AreInHomeOrder, CanBePlaced, HaveRoom, rotated}
@@ -32,10 +30,6 @@ can_lay hashes n count start first sorted are fits counted starts within is grea
       room = subst (λ h. HaveRoom n h (rotated start sorted)) (sym home)
           (rotated_room n start sorted are.sorted starts (omega (arith, fits, are.count)) most);
     }
-
-pub returns-then-is_empty-clause-hashes : goal.returns-then-is_empty-clause-hashes
-returns-then-is_empty-clause-hashes g c = c.requires.0
-    ∙ sym (nil_from_length g.hashes (grind (arith, nat_tests, c.is_empty.ensures, c.if-is_empty.true, c.requires.1.1.0.count)))
 
 pub place_sorted-requires : goal.place_sorted-requires
 place_sorted-requires g c =

@@ -1,5 +1,4 @@
 use Rattle.std.proofs.Common.{◌≡◌, ◌%◌, ℕ, get_or, arith, ap, ◌∙◌}
-use Rattle.std.proofs.lemmas.Grind.{common_steps}
 use Rattle.ijson_table.specs.private.HomeOrder.{home_in}
 use Rattle.ijson_table.specs.private.SlotHashes.{blank}
 use Rattle.ijson_table.proofs.filling.HomesAscend.{homes_ascend}
@@ -17,6 +16,3 @@ overflow_sub-home c =
       homes_ascend n c.args.sorted.now c.requires.sorted c.loop-index.start c.loop-index.index
           (omega (arith, c.loop-index.invariant.start)) c.loop-index-test.true,
     )
-
-pub loop-index-preserved : goal.loop-index-preserved
-loop-index-preserved c = grind (arith, common_steps)

@@ -8,7 +8,6 @@ use Rattle.ijson_table.specs.declared.slot.Slot.{Slot}
 use Rattle.ijson_table.specs.Crowd.{distance}
 use Rattle.ijson_table.specs.Slots.{after, times}
 use Rattle.ijson_table.specs.private.HomeOrder.{rotated, behind, HaveRoom, CanBePlaced}
-use Rattle.ijson_table.specs.private.Narrow.{Fits}
 use Rattle.ijson_table.specs.private.Probe.{onward}
 use Rattle.ijson_table.specs.private.SlotHashes.{blank, position_in, positions, HasHash, HaveHashes}
 use Rattle.ijson_table.proofs.arithmetic.Circular.{onward-zero, after-onward}
@@ -151,8 +150,3 @@ returns-clause-placed g c i =
     c.loop-step.invariant.so_far.placed i
     ∙ (ap (times i) (take_all c.loop-step._step (positions entries) (omega (arith, size, c.loop-step-test.false)))
     ∙ times-rotated i c.args.start sorted)
-
-pub set-requires-clause-fits : goal.set-requires-clause-fits
-set-requires-clause-fits g c =
-    subst (λ n. Fits n (get_or c.args.sorted.now c.loop-step.index blank)) (sym c.loop-step.invariant.count)
-    (All-get_or (Fits (length c.args.slots.now)) c.args.sorted.now c.loop-step.index blank c.loop-step.invariant.inside c.requires.1.1.1)

@@ -16,7 +16,6 @@ use Rattle.ijson_table.proofs.shifting.Insertion.{Shifting, goes_on, shift_more}
 use Rattle.ijson_table.proofs.slots.HashesInSlots.{positions-length, positions-put, positions-set, position-at, hashes-at, hashes-set}
 use Rattle.ijson_table.proofs.slots.HashesInSlots.{has_own_hash, seen_at}
 use Rattle.ijson_table.proofs.slots.Residents.{some_position}
-use Rattle.ijson_table.proofs.slots.NarrowSlots.{code-of}
 use Rattle.ijson_table.proofs.slots.SlotChanges.{changes-none, changes-set}
 use Rattle.ijson_table.proofs.index.forward.shift_forward.Goals.{After-is_empty}
 use Rattle.ijson_table.proofs.index.forward.shift_forward.Invariants.{IsOnTheWay}
@@ -111,19 +110,6 @@ module _ (hashes : List ℕ) (old : List Slot) (position from : ℕ) (slots : Li
             ∙ way.left p lp (omega (arith, away, more)));
         size = length-set slots slot entry ∙ way.size;
       }
-
-pub of-requires : goal.of-requires
-of-requires g c = c.requires.may.1.0.fits
-
-pub stored-entry-requires-clause-code : goal.stored-entry-requires-clause-code
-stored-entry-requires-clause-code g c = omega (
-  arith,
-  code-of c.of.result.code c.args.position c.of.ensures.position,
-  c.requires.code,
-)
-
-pub stored-entry-requires-clause-hash : goal.stored-entry-requires-clause-hash
-stored-entry-requires-clause-hash g c = subst (λ h. h < g.S.StoredSlot.hash_limit) (sym c.of.ensures.hash) c.requires.hash
 
 pub loop-was-init : goal.loop-was-init
 loop-was-init g c = record {

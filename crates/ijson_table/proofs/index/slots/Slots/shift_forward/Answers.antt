@@ -1,53 +1,12 @@
-use Rattle.std.proofs.Common.{◌≡◌, ◌∙◌, ℕ, List, drop, length, map, take, ap, arith, sym, subst}
-use Rattle.std.proofs.lemmas.List.{length-map, length-take, map-id, take_at, with_items_is}
+use Rattle.std.proofs.Common.{◌≡◌, ◌∙◌, ℕ, List, drop, map, take, ap, arith, sym, subst}
+use Rattle.std.proofs.lemmas.List.{length-take, map-id, take_at, with_items_is}
 use Rattle.ijson_table.specs.declared.slot.Slot.{Slot}
 use Rattle.ijson_table.specs.declared.index.slots.Slots.TheInside.{Inside}
 use Rattle.ijson_table.specs.private.Insertion.{IsPut, MayPut}
-use Rattle.ijson_table.specs.private.Narrow.{MayHold, widened}
+use Rattle.ijson_table.specs.private.Narrow.{widened}
 use Rattle.ijson_table.specs.private.NarrowSlots.{stored_slots, IsStoredByCount}
 use Rattle.ijson_table.proofs.index.slots.Slots.shift_forward.Goals.{Joined-self, in-Few, in-Narrow, in-Wide}
 use Rattle.ijson_table.proofs.index.slots.Slots.shift_forward.Goals as goal
-
--- the precondition on slots, for these hashes
-abbrev IsAsked : List ℕ → ℕ → ℕ → ℕ → List Slot → Type 0
-IsAsked hashes position hash from slots = MayPut hashes slots position hash from × MayHold (length slots) position hash
-
-pub shift_forward-requires : goal.shift_forward-requires
-shift_forward-requires g c =
-    let few = c.in-Few.few in
-    let within = subst IsStoredByCount c.in-Few.is c.self.invariant in
-    let seen : map widened (take c.from.result few.slots) ≡ c.args.self.now =
-    ap (λ n. map widened (take n few.slots)) c.from.ensures ∙ (ap stored_slots (sym c.in-Few.is) ∙ c.self.view_is) in
-    let asked = subst (IsAsked g.hashes c.args.position c.args.hash c.args.from) (sym seen)
-    c.requires in
-    let fit = asked.1 (omega (
-      arith,
-      length-map (take c.from.result few.slots) widened,
-      length-take c.from.result few.slots,
-      within,
-      c.from.ensures,
-    )) in
-    record { may = (g.hashes, asked.0); code = fit.0; hash = fit.1 }
-
-pub shift_forward-requires-in-Narrow : goal.shift_forward-requires-in-Narrow
-shift_forward-requires-in-Narrow g c =
-    let size = subst IsStoredByCount c.in-Narrow.is c.self.invariant in
-    let slots = c.deref_mut.result.now in
-    let seen : map widened slots ≡ c.args.self.now =
-    ap (map widened) c.deref_mut.ensures.value ∙ (ap stored_slots (sym c.in-Narrow.is) ∙ c.self.view_is) in
-    let asked = subst (IsAsked g.hashes c.args.position c.args.hash c.args.from) (sym seen)
-    c.requires in
-    let fit = asked.1 (omega (arith, length-map slots widened, ap length c.deref_mut.ensures.value, size.1)) in
-    record { may = (g.hashes, asked.0); code = fit.0; hash = fit.1 }
-
-pub shift_forward-requires-in-Wide : goal.shift_forward-requires-in-Wide
-shift_forward-requires-in-Wide g c =
-    let slots = c.deref_mut-in-Wide.result.now in
-    let seen : map (λ slot. slot) slots ≡ c.args.self.now =
-    map-id slots ∙ (c.deref_mut-in-Wide.ensures.value ∙ (ap stored_slots (sym c.in-Wide.is) ∙ c.self.view_is)) in
-    let asked = subst (IsAsked g.hashes c.args.position c.args.hash c.args.from) (sym seen)
-    c.requires in
-    record { may = (g.hashes, asked.0); code = asked.0.0.fits; hash = c.ranges.hash.fits }
 
 -- The represented slots before and after a call that inserts the index into the stored ones.
 put_as : (hashes : List ℕ) (position hash from : ℕ) (old old' new new' : List Slot) (last last' : ℕ)

@@ -1,11 +1,9 @@
-use Rattle.std.proofs.Common.{◌∙◌, ap, arith, length, refl, replicate, sym, subst}
-use Rattle.std.proofs.lemmas.List.{length-map, length-replicate}
+use Rattle.std.proofs.Common.{ap, refl, replicate, sym, subst}
 use Rattle.ijson_table.specs.declared.index.slots.Stored.{Stored}
 use Rattle.ijson_table.specs.declared.index.slots.TheConstants.{FEW_SLOTS}
-use Rattle.ijson_table.specs.private.Narrow.{widened}
 use Rattle.ijson_table.specs.private.NarrowSlots.{stored_slots}
 use Rattle.ijson_table.specs.private.SlotHashes.{position_in}
-use Rattle.ijson_table.proofs.slots.StoredSlots.{IsEmpty, few-empty, few-length, narrow-empty, wide-empty}
+use Rattle.ijson_table.proofs.slots.StoredSlots.{IsEmpty, few-empty, narrow-empty, wide-empty}
 use Rattle.ijson_table.proofs.index.slots.Slots.with_count.Goals.{then-count-le-FEW_SLOTS}
 use Rattle.ijson_table.proofs.index.slots.Slots.with_count.Goals.{else-count-le-FEW_SLOTS+then-count-le-NARROW_SLOTS+in_ok-vec}
 use Rattle.ijson_table.proofs.index.slots.Slots.with_count.Goals.{else-count-le-FEW_SLOTS+else-count-le-NARROW_SLOTS+in_ok-vec-2}
@@ -25,23 +23,4 @@ returns-clause-empty c = elim c.if-count-le-FEW_SLOTS.branch [
       subst (λ (s : Stored). IsEmpty (stored_slots s)) (sym w.stored-is)
       (wide-empty list.field-0.items c.args.count blank.result (list.ensures.items_if_clones_equal (λ _ e. e))
       (ap position_in blank.ensures))
-]
-
-pub returns-clause-count : goal.returns-clause-count
-returns-clause-count c = elim c.if-count-le-FEW_SLOTS.branch [
-  | then-count-le-FEW_SLOTS w ↦ ap (λ (s : Stored). length (stored_slots s)) w.stored-is
-      ∙ few-length c.args.count _ (simp length-replicate (omega arith))
-  | else-count-le-FEW_SLOTS+then-count-le-NARROW_SLOTS+in_ok-vec w ↦ omega (
-    arith,
-    ap (λ (s : Stored). length (stored_slots s)) w.stored-is,
-    length-map w.in_ok-vec.field-0.items widened,
-    w.in_ok-vec.field-0.ok.0,
-    w.in_ok-vec.ensures.len,
-  )
-  | else-count-le-FEW_SLOTS+else-count-le-NARROW_SLOTS+in_ok-vec-2 w ↦ omega (
-    arith,
-    ap (λ (s : Stored). length (stored_slots s)) w.stored-is,
-    w.in_ok-vec-2.field-0.ok.0,
-    w.in_ok-vec-2.ensures.len,
-  )
 ]
