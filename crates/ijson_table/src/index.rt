@@ -51,27 +51,6 @@ impl Model for Index {
 }
 
 impl Index {
-    /// Creates a hash index without slots, which does not allocate.
-    pub fn new() -> Index
-        ensures hashes { result.hashes ≡ [] }
-        ensures slots { result.slots ≡ [] }
-    {
-        Index {
-            slots: Slots::new(),
-        }
-    }
-
-    /// Creates `count` empty slots.
-    pub fn with_slots(alloc: Global, count: usize) -> Result<Index, AllocError>
-        ensures hashes { IfOk result (λ list. list.hashes ≡ []) }
-        ensures count { IfOk result (λ list. length list.slots ≡ count) }
-        ensures refused { OnErr result (0 < count) }
-    {
-        Ok(Index {
-            slots: Slots::with_count(alloc, count)?,
-        })
-    }
-
     /// Returns a copy of the slots.
     pub fn copied(&self, alloc: Global) -> Result<Index, AllocError>
         ensures copied { IfOk result (λ list. list ≡ self.now) }
@@ -116,13 +95,5 @@ impl Index {
         ensures changes { changes self.old.slots self.new.slots ≤ distance (length self.old.slots) slot result + 1 }
     {
         self.slots.shift_forward(slot, position, hash)
-    }
-
-    /// Empties all slots.
-    pub fn clear(&mut self)
-        ensures hashes { self.new.hashes ≡ [] }
-        ensures count { length self.new.slots ≡ length self.old.slots }
-    {
-        self.slots.clear();
     }
 }

@@ -72,31 +72,6 @@ impl Model for Slots {
 }
 
 impl Slots {
-    /// Creates a list without slots, which does not allocate.
-    pub fn new() -> Slots
-        ensures { result ≡ [] }
-    {
-        Slots {
-            stored: Stored::Few(FewSlots::empty(0)),
-        }
-    }
-
-    /// Creates `count` empty slots.
-    pub fn with_count(alloc: Global, count: usize) -> Result<Slots, AllocError>
-        ensures empty { IfOk result (λ slots. All (λ slot. position_in slot ≡ None) slots) }
-        ensures count { IfOk result (λ slots. length slots ≡ count) }
-        ensures refused { OnErr result (0 < count) }
-    {
-        let stored = if count <= FEW_SLOTS {
-            Stored::Few(FewSlots::empty(count))
-        } else if count <= NARROW_SLOTS {
-            Stored::Narrow(repeated(alloc, NarrowSlot::empty(), count)?)
-        } else {
-            Stored::Wide(repeated(alloc, Slot::empty(), count)?)
-        };
-        Ok(Slots { stored })
-    }
-
     /// Returns the number of slots.
     #[inline(always)]
     pub fn len(&self) -> usize
@@ -160,18 +135,6 @@ impl Slots {
         }
     }
 
-    /// Empties all slots.
-    pub fn clear(&mut self)
-        ensures empty { All (λ slot. position_in slot ≡ None) self.new }
-        ensures count { length self.new ≡ length self.old }
-    {
-        match &mut self.stored {
-            Stored::Few(few) => few.slots.fill(NarrowSlot::empty()),
-            Stored::Narrow(slots) => slots.fill(NarrowSlot::empty()),
-            Stored::Wide(slots) => slots.fill(Slot::empty()),
-        }
-    }
-
     /// Returns a copy of the slots.
     pub fn copied(&self, alloc: Global) -> Result<Slots, AllocError>
         ensures copied { IfOk result (λ slots. slots ≡ self.now) }
@@ -187,6 +150,48 @@ impl Slots {
 }
 
 impl Index {
+    /// Creates a hash index without slots, which does not allocate.
+    pub fn new() -> Index
+        ensures hashes { result.hashes ≡ [] }
+        ensures count { length result.slots ≡ 0 }
+    {
+        Index {
+            slots: Slots {
+                stored: Stored::Few(FewSlots::empty(0)),
+            },
+        }
+    }
+
+    /// Creates `count` empty slots.
+    pub fn with_slots(alloc: Global, count: usize) -> Result<Index, AllocError>
+        ensures hashes { IfOk result (λ list. list.hashes ≡ []) }
+        ensures count { IfOk result (λ list. length list.slots ≡ count) }
+        ensures refused { OnErr result (0 < count) }
+    {
+        let stored = if count <= FEW_SLOTS {
+            Stored::Few(FewSlots::empty(count))
+        } else if count <= NARROW_SLOTS {
+            Stored::Narrow(repeated(alloc, NarrowSlot::empty(), count)?)
+        } else {
+            Stored::Wide(repeated(alloc, Slot::empty(), count)?)
+        };
+        Ok(Index {
+            slots: Slots { stored },
+        })
+    }
+
+    /// Empties all slots.
+    pub fn clear(&mut self)
+        ensures hashes { self.new.hashes ≡ [] }
+        ensures count { length self.new.slots ≡ length self.old.slots }
+    {
+        match &mut self.slots.stored {
+            Stored::Few(few) => few.slots.fill(NarrowSlot::empty()),
+            Stored::Narrow(slots) => slots.fill(NarrowSlot::empty()),
+            Stored::Wide(slots) => slots.fill(Slot::empty()),
+        }
+    }
+
     /// Probes for a key among entries, from its home slot.
     ///
     /// `hash` is the part of its hash that the slots keep. Their representation is tested once.
