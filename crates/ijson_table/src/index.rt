@@ -30,9 +30,9 @@ mod shift;
 mod slots;
 
 use crate::index::probe::{Lookup, Probed, probe};
-use crate::index::slots::{Slots, Stored};
+use crate::index::slots::{FEW_SLOTS, FewSlots, Slots, Stored};
 use crate::slot::narrow::NarrowSlot;
-use crate::slot::{Modulus, Slot};
+use crate::slot::{Modulus, NARROW_SLOTS, Slot};
 use ijson_number::Looks;
 use ijson_string::IString;
 use std::alloc::{AllocError, Global};
@@ -61,10 +61,14 @@ impl Index {
     /// Creates a hash index without slots, which does not allocate.
     pub fn new() -> Index
         ensures hashes { result.hashes ≡ [] }
-        ensures slots { result.slots ≡ [] }
+        ensures count { length result.slots ≡ 0 }
     {
+        let stored = Stored::Few(FewSlots {
+            count: 0,
+            slots: [NarrowSlot::EMPTY; FEW_SLOTS],
+        });
         Index {
-            slots: Slots::new(),
+            slots: Slots { stored },
         }
     }
 
@@ -74,8 +78,18 @@ impl Index {
         ensures count { IfOk result (λ list. length list.slots ≡ count) }
         ensures refused { OnErr result (0 < count) }
     {
+        let stored = if count <= FEW_SLOTS {
+            Stored::Few(FewSlots {
+                count: count as u8,
+                slots: [NarrowSlot::EMPTY; FEW_SLOTS],
+            })
+        } else if count <= NARROW_SLOTS {
+            Stored::Narrow(vec![in alloc; NarrowSlot::EMPTY; count]?)
+        } else {
+            Stored::Wide(vec![in alloc; Slot::empty(); count]?)
+        };
         Ok(Index {
-            slots: Slots::with_count(alloc, count)?,
+            slots: Slots { stored },
         })
     }
 
@@ -177,6 +191,10 @@ impl Index {
         ensures hashes { self.new.hashes ≡ [] }
         ensures count { length self.new.slots ≡ length self.old.slots }
     {
-        self.slots.clear();
+        match &mut self.slots.stored {
+            Stored::Few(few) => few.slots.fill(NarrowSlot::EMPTY),
+            Stored::Narrow(slots) => slots.fill(NarrowSlot::EMPTY),
+            Stored::Wide(slots) => slots.fill(Slot::empty()),
+        }
     }
 }

@@ -10,13 +10,13 @@ ghost use Rattle.ijson_table.specs.private.SlotHashes.{blank, position_in};
 use crate::index::forward::shift_forward;
 use crate::slot::narrow::NarrowSlot;
 use crate::slot::stored::StoredSlot;
-use crate::slot::{NARROW_SLOTS, Slot};
+use crate::slot::Slot;
 use std::alloc::{AllocError, Global};
 use std::marker::Model;
 use std::mem::size_of;
 
 /// The largest number of slots that are stored inline.
-const FEW_SLOTS: usize = 10;
+pub const FEW_SLOTS: usize = 10;
 
 /// Slots, each empty or with the index of an entry and the kept part of the hash of its key.
 ///
@@ -59,37 +59,6 @@ impl Model for Slots {
 }
 
 impl Slots {
-    /// Creates a list without slots, which does not allocate.
-    pub fn new() -> Slots
-        ensures { result ≡ [] }
-    {
-        Slots {
-            stored: Stored::Few(FewSlots {
-                count: 0,
-                slots: [NarrowSlot::EMPTY; FEW_SLOTS],
-            }),
-        }
-    }
-
-    /// Creates `count` empty slots.
-    pub fn with_count(alloc: Global, count: usize) -> Result<Slots, AllocError>
-        ensures empty { IfOk result (λ slots. All (λ slot. position_in slot ≡ None) slots) }
-        ensures count { IfOk result (λ slots. length slots ≡ count) }
-        ensures refused { OnErr result (0 < count) }
-    {
-        let stored = if count <= FEW_SLOTS {
-            Stored::Few(FewSlots {
-                count: count as u8,
-                slots: [NarrowSlot::EMPTY; FEW_SLOTS],
-            })
-        } else if count <= NARROW_SLOTS {
-            Stored::Narrow(vec![in alloc; NarrowSlot::EMPTY; count]?)
-        } else {
-            Stored::Wide(vec![in alloc; Slot::empty(); count]?)
-        };
-        Ok(Slots { stored })
-    }
-
     /// Returns the number of slots.
     #[inline(always)]
     pub fn len(&self) -> usize
@@ -149,18 +118,6 @@ impl Slots {
             ),
             Stored::Narrow(slots) => shift_forward(slots, from, position, hash),
             Stored::Wide(slots) => shift_forward(slots, from, position, hash),
-        }
-    }
-
-    /// Empties all slots.
-    pub fn clear(&mut self)
-        ensures empty { All (λ slot. position_in slot ≡ None) self.new }
-        ensures count { length self.new ≡ length self.old }
-    {
-        match &mut self.stored {
-            Stored::Few(few) => few.slots.fill(NarrowSlot::EMPTY),
-            Stored::Narrow(slots) => slots.fill(NarrowSlot::EMPTY),
-            Stored::Wide(slots) => slots.fill(Slot::empty()),
         }
     }
 
