@@ -8,9 +8,9 @@ ghost use Rattle.ijson_table.specs.private.Narrow.{Fits, MayHold};
 ghost use Rattle.ijson_table.specs.private.SlotHashes.{blank, position_in};
 
 use crate::index::forward::shift_forward;
+use crate::slot::Slot;
 use crate::slot::narrow::NarrowSlot;
 use crate::slot::stored::StoredSlot;
-use crate::slot::Slot;
 use std::alloc::{AllocError, Global};
 use std::marker::Model;
 use std::mem::size_of;

@@ -14,8 +14,8 @@ use Rattle.ijson_table.proofs.index.Index.clear.Goals as goal
 few : (c : After-fill) → IsIndexOf [] (map widened (take c.in-Few.few.count c.fill.new.self))
 few c = empty_index (map widened (take c.in-Few.few.count c.fill.new.self))
     (few-empty c.in-Few.few.count c.fill.new.self (length c.in-Few.few.slots) _ (c.fill.ensures.after (λ _ e. e)) refl)
-    (let within = c.in-Few.few.within in let all : length c.in-Few.few.slots ≡ FEW_SLOTS = search rules in
-    omega (arith, within, few-length c.in-Few.few.count c.fill.new.self (omega (arith, within, all, c.fill.ensures.len))))
+    (let size = subst IsStoredByCount c.in-Few.is c.self-inside.invariant in
+    omega (arith, size, few-length c.in-Few.few.count c.fill.new.self (omega (arith, size, c.fill.ensures.len))))
 
 narrow : (c : After-fill-in-Narrow) → IsIndexOf [] (map widened c.fill-in-Narrow.new.self.items)
 narrow c = empty_index (map widened c.fill-in-Narrow.new.self.items)

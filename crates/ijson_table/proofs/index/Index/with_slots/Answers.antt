@@ -1,8 +1,9 @@
-use Rattle.std.proofs.Common.{[], length, arith, ap, refl, replicate, sym, subst}
+use Rattle.std.proofs.Common.{◌≡◌, [], length, arith, ap, refl, replicate, sym, subst}
 use Rattle.std.proofs.lemmas.List.{length-map, length-replicate}
 use Rattle.ijson_table.specs.declared.index.slots.Stored.{Stored}
 use Rattle.ijson_table.specs.declared.index.slots.Stored.TheVariants.{Narrow, Wide}
 use Rattle.ijson_table.specs.declared.index.slots.TheConstants.{FEW_SLOTS}
+use Rattle.ijson_table.specs.declared.slot.narrow.NarrowSlot.{NarrowSlot}
 use Rattle.ijson_table.specs.private.Narrow.{widened}
 use Rattle.ijson_table.specs.private.NarrowSlots.{stored_slots}
 use Rattle.ijson_table.specs.private.SlotHashes.{position_in}
@@ -22,10 +23,11 @@ none c = elim c.if-count-le-FEW_SLOTS.branch [
       (omega (arith, few-length c.args.count slots w.if-count-le-FEW_SLOTS.true, c.ranges.count.fits)))
   | else-count-le-FEW_SLOTS+then-count-le-NARROW_SLOTS+in_ok-vec w ↦
       let items = w.in_ok-vec.field-0.items in
-      let each = w.in_ok-vec.ensures.items_if_clones_equal (λ _ e. e) in
+      let blank : NarrowSlot = record { code = 0; low = 0; high = 0 } in
+      let each : items ≡ replicate c.args.count blank = w.in_ok-vec.ensures.items_if_clones_equal (λ _ e. e) in
       subst (λ (s : Stored). IsIndexOf [] (stored_slots s)) (sym w.stored-is)
-      (empty_index (stored_slots (Narrow w.in_ok-vec.field-0)) (narrow-empty items c.args.count _ each refl)
-      (omega (arith, length-map items widened, ap length each, length-replicate c.args.count _, c.ranges.count.fits)))
+      (empty_index (stored_slots (Narrow w.in_ok-vec.field-0)) (narrow-empty items c.args.count blank each refl)
+      (omega (arith, length-map items widened, ap length each, length-replicate c.args.count blank, c.ranges.count.fits)))
   | else-count-le-FEW_SLOTS+else-count-le-NARROW_SLOTS+in_ok-vec-2 w ↦
       let each = w.in_ok-vec-2.ensures.items_if_clones_equal (λ _ e. e) in
       subst (λ (s : Stored). IsIndexOf [] (stored_slots s)) (sym w.stored-is)
