@@ -1,11 +1,8 @@
-use Rattle.std.proofs.Common.{◌≡◌, refl, ◌≢◌, ◌<◌, ◌-◌, ℕ, length, get_or, None, arith, sym, ap, ◌∙◌, ◌+◌, ◌^◌, ◌≤◌}
-use Rattle.std.proofs.lemmas.Result.{IfOk-from_err}
-use borrow.Author.Rules.{scaled_Fits}
+use Rattle.std.proofs.Common.{◌≢◌, ◌<◌, ◌-◌, ℕ, length, get_or, None, arith, sym, ap, ◌∙◌}
 use Rattle.ijson_table.specs.Store.{keys_of}
 use Rattle.ijson_table.specs.private.KeyOrder.{IsEarlier}
 use Rattle.ijson_table.specs.private.SlotHashes.{blank, position_in}
 use Rattle.ijson_table.proofs.firsts.KeyRuns.{all_told, each_stands, goes_on, is_position, other_key, same_key}
-use Rattle.ijson_table.proofs.pairs.PairsByKey.{keys-length}
 use Rattle.ijson_table.proofs.sorting.earlier.earlier_positions.Given.{Over}
 use Rattle.ijson_table.proofs.sorting.earlier.earlier_positions.Goals as goal
 use Rattle.ijson_table.proofs.sorting.earlier.earlier_positions.Goals.{then-not-has_same_key, else-not-has_same_key, Start}
@@ -13,16 +10,6 @@ use Rattle.ijson_table.proofs.sorting.earlier.earlier_positions.Goals.{then-not-
 -- each entry has an index
 stands : (g : Over) (c : Start g) (k : ℕ) → k < length c.args.sorted.now → position_in (get_or c.args.sorted.now k blank) ≢ None
 stands g c = each_stands (keys_of c.args.pairs.now) c.args.sorted.now c.requires.entries
-
-pub loop-entry-init : goal.loop-entry-init
-loop-entry-init g c = record {
-  so_far = record {
-    count = omega (arith, c.in_ok-earlier.ensures.len, c.in_ok-earlier.earlier.ok.0, keys-length c.args.pairs.now);
-    last_is = refl;
-    told = λ j p lj at. absurd (omega arith);
-  };
-  looked = omega arith;
-}
 
 pub resident-requires : goal.resident-requires
 resident-requires g c =
@@ -80,28 +67,3 @@ pub returns-clause-earlier : goal.returns-clause-earlier
 returns-clause-earlier g c =
     all_told (keys_of c.args.pairs.now) c.args.sorted.now c.requires.entries
     c.loop-entry.entry-index c.loop-entry.last c.loop-entry.earlier.items c.loop-entry-test.false c.loop-entry.invariant.so_far
-
--- one more inspection can be counted,
-one_more : (old index sorted keys pairs looks : ℕ) → looks ≡ old + index → index < sorted → sorted ≡ keys → keys ≡ pairs
-    → old + pairs < 2 ^ 128 → looks + 1 < 2 ^ 128
-one_more old index sorted keys pairs looks looked there count size fits = omega arith
-
--- and they are no more than the pairs
-in_all : (old index sorted keys pairs looks : ℕ) → looks ≡ old + index → index ≤ sorted → sorted ≡ keys → keys ≡ pairs
-    → looks ≤ old + pairs
-in_all old index sorted keys pairs looks looked there count size = omega arith
-
-pub offset_bounds-sorted-entry-index : goal.offset_bounds-sorted-entry-index
-offset_bounds-sorted-entry-index g c = scaled_Fits c.loop-entry.entry-index (length c.args.sorted.now) 16 c.loop-entry-test.true
-    c.well_formed.1.0.1
-
-pub add_one-requires : goal.add_one-requires
-add_one-requires g c = one_more c.args.looks.now c.loop-entry.entry-index _ _ _ c.loop-entry.looks c.loop-entry.invariant.looked
-    c.loop-entry-test.true c.requires.entries.count (keys-length c.args.pairs.now) c.requires.fits
-
-pub returns-clause-bounded : goal.returns-clause-bounded
-returns-clause-bounded g c = in_all c.args.looks.now c.loop-entry.entry-index _ _ _ c.loop-entry.looks c.loop-entry.invariant.looked
-    c.loop-entry.auto.entry-index-end c.requires.entries.count (keys-length c.args.pairs.now)
-
-pub returns-in_err-earlier-clause-earlier : goal.returns-in_err-earlier-clause-earlier
-returns-in_err-earlier-clause-earlier g c = IfOk-from_err c.from_residual.result _ c.from_residual.ensures.0
