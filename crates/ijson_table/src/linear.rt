@@ -1,19 +1,18 @@
 //! A pair store that searches its list.
 
-ghost use Rattle.std.specs.Prelude.{◌≡◌, ◌↔◌, ◌<◌, ◌≤◌, [], length, Err, IfOk, IsOk, refl};
+ghost use Rattle.std.specs.Prelude.{◌≡◌, ◌↔◌, ◌<◌, [], Err, IfOk, IsOk, refl};
 ghost use Rattle.std.specs.Option.{option_copied};
 ghost use Rattle.ijson_table.specs.Store.{at, keys_of, IsDistinct, lookup};
 ghost use Rattle.ijson_table.specs.StoreWithValue.{store_with_value};
 ghost use Rattle.ijson_table.specs.laws.Store.{IsDistinct-prop};
 ghost use Rattle.ijson_table.specs.Growth.{capacity_limit};
 ghost use Rattle.ijson_table.specs.Inserts.{Inserts};
-ghost use Rattle.ijson_table.specs.private.Room.{IsResized};
 
 use crate::growth::{grown_capacity, limited};
 use crate::store::{PairStore, RefusedPair, ReserveError, insert};
 use crate::vec::set_room;
 use ijson_string::IString;
-use std::alloc::{AllocError, Global};
+use std::alloc::Global;
 use std::fmt;
 use std::marker::Model;
 
@@ -111,18 +110,6 @@ impl<V: Drop> LinearPairs<V> {
     {
         insert(self, key, value)
     }
-
-    /// Sets the capacity, to the length or to at least the old one.
-    ///
-    /// If an allocation fails, nothing changes.
-    fn set_capacity(&mut self, capacity: usize) -> Result<(), AllocError>
-        requires within { length self.old.pairs ≤ capacity }
-        requires grows { length self.old.pairs < capacity → self.old.capacity ≤ capacity }
-        requires limited { capacity ≤ capacity_limit }
-        ensures { IsResized self.old.pairs self.old.capacity capacity result self.new.pairs self.new.capacity }
-    {
-        set_room(*self.pairs.allocator(), &mut self.pairs, capacity)
-    }
 }
 
 /// Formats the entries as a map, in order.
@@ -160,7 +147,7 @@ impl<V: Drop> PairStore<V> for LinearPairs<V> {
 
     fn reserve(&mut self, additional: usize) -> Result<(), ReserveError> {
         match grown_capacity(self.len(), self.capacity(), additional)? {
-            Some(capacity) => Ok(self.set_capacity(capacity)?),
+            Some(capacity) => Ok(set_room(*self.pairs.allocator(), &mut self.pairs, capacity)?),
             None => Ok(()),
         }
     }
@@ -170,7 +157,7 @@ impl<V: Drop> PairStore<V> for LinearPairs<V> {
         if self.capacity() == len {
             return Ok(());
         }
-        Ok(self.set_capacity(len)?)
+        Ok(set_room(*self.pairs.allocator(), &mut self.pairs, len)?)
     }
 
     fn position(&self, key: &str) -> Option<usize> {

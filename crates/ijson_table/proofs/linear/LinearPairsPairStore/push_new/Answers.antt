@@ -1,4 +1,4 @@
-use Rattle.std.proofs.Common.{◌++◌, ◌∷◌, [], ap, refl, ◌∙◌}
+use Rattle.std.proofs.Common.{ap, refl}
 use Rattle.ijson_table.specs.Store.{Store}
 use Rattle.ijson_table.proofs.pairs.NewPairs.{still_distinct}
 use Rattle.ijson_table.proofs.linear.LinearPairsPairStore.push_new.Goals as goal
@@ -7,8 +7,3 @@ pub invariant_of-self-inside : goal.invariant_of-self-inside
 invariant_of-self-inside g c =
     let viewed = ap (λ (s : Store g.row.V.Denot). s.pairs) c.self.view_is in
     (still_distinct c.args.key c.args.value viewed c.push_reserved.ensures.items refl c.requires.missing c.self.inside.distinct, tt)
-
-pub returns-clause-pairs : goal.returns-clause-pairs
-returns-clause-pairs g c =
-    c.push_reserved.ensures.items
-    ∙ ap (λ (s : Store g.row.V.Denot). s.pairs ++ (c.args.key, c.args.value) ∷ []) c.self.view_is

@@ -1,5 +1,5 @@
-use Rattle.std.proofs.Common.{◌<◌, ◌∙◌, length, arith, ap, sym, subst}
-use Rattle.ijson_table.specs.Store.{Store, keys_of, shift_out, IsDistinct}
+use Rattle.std.proofs.Common.{◌<◌, length, arith, ap, sym, subst}
+use Rattle.ijson_table.specs.Store.{Store, keys_of, IsDistinct}
 use Rattle.ijson_table.proofs.pairs.PairsByKey.{slice_get-seen}
 use Rattle.ijson_table.proofs.shifting.ListShiftOut.{distinct_shifted}
 use Rattle.ijson_table.proofs.linear.LinearPairsPairStore.shift_out.Goals as goal
@@ -14,9 +14,3 @@ pub returns-clause-pair : goal.returns-clause-pair
 returns-clause-pair g c =
     slice_get-seen c.self.inside.pairs.items c.args.self.now.pairs c.args.index c.remove.result
     (ap (λ (s : Store g.row.V.Denot). s.pairs) c.self.view_is) c.requires c.remove.ensures.value
-
-pub returns-clause-pairs : goal.returns-clause-pairs
-returns-clause-pairs g c = c.remove.ensures.items ∙ ap (λ (s : Store g.row.V.Denot). shift_out s.pairs c.args.index) c.self.view_is
-
-pub returns-clause-room : goal.returns-clause-room
-returns-clause-room g c = c.remove.ensures.capacity ∙ ap (λ (s : Store g.row.V.Denot). s.capacity) c.self.view_is

@@ -1,5 +1,5 @@
 use Rattle.std.proofs.Common.{arith, ap, ◌∙◌}
-use Rattle.ijson_table.proofs.firsts.PlacesSoFar.{Turn, place_below, with_new, with_old, within}
+use Rattle.ijson_table.proofs.firsts.PlacesSoFar.{Turn, place_below, with_new, with_old}
 use Rattle.ijson_table.proofs.sorting.duplicates.merge_duplicates.Given.{Over}
 use Rattle.ijson_table.proofs.sorting.duplicates.merge_duplicates.Goals as goal
 use Rattle.ijson_table.proofs.sorting.duplicates.merge_duplicates.Goals.{then-before-position, else-before-position, After-swap}
@@ -14,15 +14,6 @@ turn g c = record {
   read = c.index-before.ensures;
   moved = c.swap.ensures.after;
 }
-
-pub index-place-requires : goal.index-place-requires
-index-place-requires g c = omega (
-  arith,
-  within c.args.pairs.now c.args.earlier.items c.requires c.loop-position.pairs c.swap.new.self c.loop-position.places.items
-      c.loop-position.kept c.loop-position.position c.index-before.result.now (turn g (goal.at.index-place-requires g c).After-swap)
-      c.if-before-position.false,
-  c.loop-position.places.ok.0,
-)
 
 pub swap-requires-else-before-position-clause-a_in_bounds : goal.swap-requires-else-before-position-clause-a_in_bounds
 swap-requires-else-before-position-clause-a_in_bounds g c =
