@@ -86,6 +86,13 @@ fn set_pair<I: ObjectIndex>(object: &mut IObject, index: I)
     put_entry(index.index_into_mut(object));
 }
 
+/// Writes true as the value of a key, by the entry that is found.
+fn set_found(object: &mut IObject, letters: &str) {
+    if let Some((_, place)) = object.get_key_value_mut(letters) {
+        put_true(place);
+    }
+}
+
 /// Writes true one step inside a value, if there is a value. Nothing else changes.
 fn set_inside<I: ValueIndex>(value: &mut IValue, index: I)
     requires { kind_of value.old.tree ≡ kind_for (I.Sealed.step index) }
@@ -196,13 +203,14 @@ static WRITTEN: [(&str, bool, &str, &str); 3] = [
 #[derive(Clone, Copy)]
 enum Way {
     Pair,
+    Found,
     Inside,
     Path,
     Put,
 }
 
 /// The ways that write nothing if the key is missing.
-static WAYS: [Way; 3] = [Way::Pair, Way::Inside, Way::Path];
+static WAYS: [Way; 4] = [Way::Pair, Way::Found, Way::Inside, Way::Path];
 
 /// Asserts whether a key exists, by the key returned with a mutable value.
 fn is_beside(rt: &impl Abort, object: &mut IObject, letters: &str, there: bool) {
@@ -230,6 +238,7 @@ fn writes(
     assert!(*rt; value.is_object());
     match way {
         Way::Pair => set_pair(value.as_object_mut().expect(rt, "an object"), letters),
+        Way::Found => set_found(value.as_object_mut().expect(rt, "an object"), letters),
         Way::Inside => set_inside(value, letters),
         Way::Path => assert!(*rt; set_by_path(value, letters) == there),
         Way::Put => put_by_path(value, key(rt, alloc, letters)).expect(rt, "room"),
