@@ -1,5 +1,5 @@
 -- Counting by different indices.
-use Rattle.std.proofs.Common.{◌≡◌, ◌≢◌, ℕ, zero, suc, ◌+◌, ◌-◌, ◌<◌, ◌≤◌, arith, List, length, get_or, set, true, false, eqb, ap}
+use Rattle.std.proofs.Common.{◌≡◌, ◌≢◌, ℕ, zero, suc, ◌<◌, ◌≤◌, arith, List, length, get_or, set, true, false, eqb, ap}
 use Rattle.std.proofs.Common.{max, refl, subst, get_or-set_other}
 use Rattle.std.specs.Prelude.{sum}
 use Rattle.std.proofs.lemmas.List.{length-set}

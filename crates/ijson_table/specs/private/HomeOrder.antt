@@ -1,6 +1,6 @@
 -- Entries in the order of their home slots.
-use Rattle.std.specs.Prelude.{◌≡◌, ◌≢◌, ℕ, ◌+◌, ◌%◌, ◌<◌, ◌≤◌, Bool, eqb, ltb, leb, List, ◌++◌}
-use Rattle.std.specs.Prelude.{length, get_or, take, drop, None, unwrap_or, if◌then◌else◌}
+use Rattle.std.specs.Prelude.{◌≡◌, ◌≢◌, ℕ, ◌+◌, ◌%◌, ◌<◌, ◌≤◌, Bool, leb, List, ◌++◌}
+use Rattle.std.specs.Prelude.{length, get_or, take, drop, None}
 use Rattle.std.specs.List.{All}
 use Rattle.ijson_table.specs.Crowd.{distance}
 use Rattle.ijson_table.specs.Slots.{times, below}
@@ -11,13 +11,9 @@ use Rattle.ijson_table.specs.private.Sorting.{Entry, IsSortedBy}
 abbrev pub home_in : ℕ → Entry → ℕ
 home_in n entry = entry.hash % n
 
--- its index, if it has one
-abbrev pub place_in : Entry → ℕ
-place_in entry = unwrap_or (position_in entry) 0
-
--- Whether one entry may precede another: by home slot, then by index.
+-- whether one entry may precede another
 abbrev pub home_before : ℕ → Entry → Entry → Bool
-home_before n a b = (if eqb (home_in n a) (home_in n b) then leb (place_in a) (place_in b) else ltb (home_in n a) (home_in n b))
+home_before n a b = leb (home_in n a) (home_in n b)
 
 -- Entries of all keys with these hashes, each once, in the order of their home slots among n slots.
 pub record AreInHomeOrder (hashes : List ℕ) (n : ℕ) (entries : List Entry) : Type 0 where
