@@ -1,11 +1,11 @@
 use Rattle.std.specs.Prelude.{swap}
-use Rattle.std.proofs.Common.{◌≡◌, ℕ, List, ◌+◌, ◌<◌, ◌≤◌, [], length, length-take, get_or, take, drop, arith, ap, sym, subst, ◌∙◌}
+use Rattle.std.proofs.Common.{◌≡◌, ℕ, List, ◌+◌, ◌<◌, ◌≤◌, [], length, length-take, get_or, take, drop, arith, sym, ◌∙◌}
 use Rattle.ijson_table.specs.Store.{keys_of, put_each}
 use Rattle.ijson_table.specs.private.FirstPlaced.{FirstPlaced}
 use Rattle.ijson_table.specs.private.KeptHash.{kept_hash}
 use Rattle.ijson_table.proofs.pairs.PairsByKey.{position_within}
 use Rattle.ijson_table.proofs.pairs.PutEach.{put_each-split}
-use Rattle.ijson_table.proofs.pairs.PutInPlace.{moved_first, over_keys, put_next, put_over}
+use Rattle.ijson_table.proofs.pairs.PutInPlace.{over_keys, put_next, put_over}
 use Rattle.ijson_table.proofs.probing.FirstPairs.{same_first}
 use Rattle.ijson_table.proofs.table.from_list.put_in_place.Goals.{in-None, in-Some}
 use Rattle.ijson_table.proofs.table.from_list.put_in_place.Goals as goal
@@ -25,13 +25,6 @@ loop-position-init g c =
       counted = added.counted;
       steps = added.steps;
     }
-
-pub add_new_key-requires-clause-placed : goal.add_new_key-requires-clause-placed
-add_new_key-requires-clause-placed g c =
-    let i = c.loop-position.invariant in
-    subst (λ n. FirstPlaced (kept_hash n g.H.KeyHash.hash_of) c.swap.new.self c.loop-position.kept c.loop-position.index) (sym i.count)
-    (same_first i.placed (ap keys_of (moved_first c.loop-position.pairs c.swap.new.self c.loop-position.kept c.loop-position.position
-    i.within (omega (arith, c.loop-position-test.true, c.loop-position.auto.pairs)) c.swap.ensures.after)))
 
 pub swap-requires-in-Some-clause-a_in_bounds : goal.swap-requires-in-Some-clause-a_in_bounds
 swap-requires-in-Some-clause-a_in_bounds g c = omega (
