@@ -7,18 +7,15 @@ use Rattle.ijson_table.specs.Crowd.{slot_count}
 use Rattle.ijson_table.specs.Store.{keys_of, swap_out, IsDistinct}
 use Rattle.ijson_table.specs.laws.Store.{keys-with_value}
 use Rattle.ijson_table.specs.declared.index.probe.Probed.{Probed}
-use Rattle.ijson_table.specs.declared.index.probe.Probed.TheVariants.{Full}
 use Rattle.ijson_table.specs.Growth.{Grown}
 use Rattle.ijson_table.specs.Slots.{IsTable, IsBounded}
 use Rattle.ijson_table.specs.private.CountedSteps.{Walks}
 use Rattle.ijson_table.specs.private.Lookup.{LookUpEnds}
 use Rattle.ijson_table.specs.private.HashIndex.{HashIndex}
 use Rattle.ijson_table.specs.private.KeptHash.{kept_hash}
-use Rattle.ijson_table.proofs.pairs.KeyPositions.{position-none}
 use Rattle.ijson_table.proofs.pairs.PairsByKey.{keys-length, keys-swap_out, set-value}
 use Rattle.ijson_table.proofs.probing.KeyTests.{is_hashed_key-seeks}
 use Rattle.ijson_table.proofs.probing.ProbeEnds.{look_up_ends, bounded}
-use Rattle.ijson_table.proofs.probing.ProbePath.{placed_at}
 use Rattle.ijson_table.proofs.slots.KeptHashes.{table_by_hash}
 
 module _ {V : Type 0} (hash : List ℕ → ℕ) where
@@ -90,16 +87,6 @@ module _ {V : Type 0} (hash : List ℕ → ℕ) where
       bounded hash (keys_of pairs) index.slots (table_of pairs index stored table) key
       (is_hashed_key-seeks hash (keys_of pairs) key) capacity size end looks
       (ends_for pairs lent index h key looks end stored is hashed ends)
-
-  -- without slots, there is no key
-  pub nowhere : (pairs : List (List ℕ × V)) (slots : List (Option ℕ)) (key : List ℕ) → IsTable (hashes pairs) slots → length slots ≡ 0
-      → LookUpEnds (hashes pairs) (keys_of pairs) slots (hash key) key Full
-  nowhere pairs slots key table none = (
-    position-none (keys_of pairs) key (λ j lj e.
-        let spot = placed_at (hashes pairs) slots table j (omega (arith, lj, length-map (keys_of pairs) hash)) in
-        omega (arith, spot.1, none)),
-    λ e. omega (arith, e.1, none),
-  )
 
 -- if a hash index keeps the parts of the hashes for its slots, these are a table of the whole hashes
 pub table_whole : {V : Type 0} (hash : List ℕ → ℕ) (pairs : List (List ℕ × V)) (index : HashIndex)

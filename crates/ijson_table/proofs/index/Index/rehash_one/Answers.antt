@@ -4,7 +4,7 @@ use Rattle.std.proofs.lemmas.List.{length-set}
 use Rattle.ijson_table.specs.declared.slot.Slot.{Slot}
 use Rattle.ijson_table.specs.Slots.{below, times}
 use Rattle.ijson_table.specs.private.HashIndex.{HashIndex}
-use Rattle.ijson_table.specs.private.Insertion.{Accepts, IsTableOf}
+use Rattle.ijson_table.specs.private.Insertion.{Accepts}
 use Rattle.ijson_table.specs.private.KeptHash.{kept}
 use Rattle.ijson_table.specs.private.Narrow.{MayHold}
 use Rattle.ijson_table.specs.private.SlotHashes.{hashes_of, positions}
@@ -43,11 +43,6 @@ accepts g c =
       empty = some_empty (positions left) (length hashes) position (λ i. omega (arith, held.placed i)) c.requires.1.0 none
           (omega (arith, room g c, c.take_out.ensures.count, positions-length left));
     }
-
-pub take_out-requires : goal.take_out-requires
-take_out-requires g c =
-    let same = ap (λ (l : HashIndex). l.hashes) c.self.view_is ∙ sym c.requires.0 in
-    (subst (λ hs. IsTableOf hs c.self.inside.slots) same c.self.invariant.table, (c.requires.1.0, c.requires.1.1.0))
 
 pub vacancy-slot-requires : goal.vacancy-slot-requires
 vacancy-slot-requires g c = (accepts g (goal.at.vacancy-slot-requires g c).After-take_out).empty

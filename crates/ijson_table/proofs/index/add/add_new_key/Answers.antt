@@ -1,6 +1,5 @@
 use Rattle.std.proofs.Common.{◌≡◌, ◌-◌, ◌<◌, ◌%◌, [], ℕ, List, length, get_or, take, arith, rules, ap, ap₂, refl, sym, subst, ◌∙◌}
-use Rattle.std.proofs.Common.{◌+◌, length-take-le, le_of_lt}
-use Rattle.std.proofs.lemmas.Grind.{common_steps}
+use Rattle.std.proofs.Common.{◌+◌}
 use Rattle.std.proofs.lemmas.Nat.{mod_below}
 use Rattle.ijson_table.specs.declared.index.probe.Probed.{Probed}
 use Rattle.ijson_table.specs.declared.index.probe.Probed.TheVariants.{Found, Vacant, Full}
@@ -18,7 +17,7 @@ use Rattle.ijson_table.proofs.pairs.PairsByKey.{key_at}
 use Rattle.ijson_table.proofs.slots.KeptHashes.{home_of_kept, kept_once}
 use Rattle.ijson_table.proofs.index.add.add_new_key.Given.{Over}
 use Rattle.ijson_table.proofs.index.add.add_new_key.Goals.{After-probe_for, After-distance_between, After-distance_between-in-Found}
-use Rattle.ijson_table.proofs.probing.KeyHashes.{hashes, length-hashes}
+use Rattle.ijson_table.proofs.probing.KeyHashes.{hashes}
 use Rattle.ijson_table.proofs.index.add.add_new_key.Goals as goal
 
 -- the key of the pair
@@ -193,36 +192,6 @@ unreachable-requires g c =
     (ends g place Full c.in-Full.is).1 (left_empty (short g c.args.index.now) c.args.pairs.now c.args.position c.args.index.now
     c.requires.placed c.requires.within c.probe_for.ensures.table c.requires.room)
 
-pub probe_for-requires-clause-fits : goal.probe_for-requires-clause-fits
-probe_for-requires-clause-fits g c = λ m lm _. omega (arith, lm, c.new.ensures, c.requires.fits)
-
--- given for speed: the default tactics take longer
 pub probe_for-requires-clause-homed : goal.probe_for-requires-clause-homed
 probe_for-requires-clause-homed g c = home_of_kept c.args.modulus.count c.hash-whole.result c.kept_hash-hash.result
     c.home_of_hash-home.result c.kept_hash-hash.ensures c.home_of_hash-home.ensures.value
-
-pub distance_between-requires-in-Found-clause-to : goal.distance_between-requires-in-Found-clause-to
-distance_between-requires-in-Found-clause-to g c = grind (arith, common_steps)
-
-pub distance_between-requires-clause-from : goal.distance_between-requires-clause-from
-distance_between-requires-clause-from g c = omega (arith, c.home_of_hash-home.ensures.within)
-
-pub distance_between-requires-clause-to : goal.distance_between-requires-clause-to
-distance_between-requires-clause-to g c = omega (arith, c.push_at-last.ensures.within, c.requires.counted)
-
-pub offset_bounds-pairs-position : goal.offset_bounds-pairs-position
-offset_bounds-pairs-position g c = le_of_lt c.requires.within
-
-pub bounds-pairs-position : goal.bounds-pairs-position
-bounds-pairs-position g c = c.requires.within
-
-pub slice_bounds-before-end : goal.slice_bounds-before-end
-slice_bounds-before-end g c = sym (length-take-le c.args.position c.args.pairs.now (le_of_lt c.requires.within))
-
-pub push_at-last-requires-clause-room : goal.push_at-last-requires-clause-room
-push_at-last-requires-clause-room g c = c.requires.room
-
-pub push_at-last-requires-clause-position : goal.push_at-last-requires-clause-position
-push_at-last-requires-clause-position g c = sym (ap length c.requires.placed.hashes
-    ∙ length-hashes (short g c.args.index.now) (take c.args.position c.args.pairs.now)
-    ∙ length-take-le c.args.position c.args.pairs.now (le_of_lt c.requires.within))

@@ -40,8 +40,3 @@ returns-in_default g c =
       steps = omega (arith, added.steps, i.count, c.if-steps-most.false);
       counted = omega (arith, added.grows, i.counted);
     }
-
-pub returns-clause-placed : goal.returns-clause-placed
-returns-clause-placed g c =
-    subst (λ n. FirstPlaced (kept_hash (length c.args.index.now.slots) g.H.KeyHash.hash_of) c.args.pairs.now n c.loop-position.index)
-    (omega (arith, c.loop-position-test.false, c.loop-position.auto.position-end)) c.loop-position.invariant.placed

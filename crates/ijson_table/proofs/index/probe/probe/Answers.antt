@@ -20,12 +20,6 @@ loop-passed-init g c =
       looked = omega arith;
     }
 
-pub look-requires-clause-fits : goal.look-requires-clause-fits
-look-requires-clause-fits g c =
-    let fits = c.requires.fits c.loop-passed.passed (omega
-    (arith, c.loop-passed-test.true, c.requires.counted)) c.loop-passed.invariant.passed in
-    omega (arith, fits, c.loop-passed.invariant.looked)
-
 -- the residents that were passed and one more
 more : (slots : List (Option ℕ)) (seeks : ℕ → Bool) (h m i : ℕ) → PassedOthers slots seeks h m
     → resident slots (onward (length slots) h m) ≡ Some i → seeks i ≡ false → PassedOthers slots seeks h (m + 1)
@@ -67,15 +61,6 @@ ends_at : {slots : List (Option ℕ)} {displacements : ℕ → ℕ} {h : ℕ} {s
     → EndsAt slots displacements h seeks looks p m
 ends_at w t p o l = record { within = w; there = t; passed = p; others = o; looked = l }
 
-pub returns-in-Empty-clause-ends : goal.returns-in-Empty-clause-ends
-returns-in-Empty-clause-ends g c =
-    let i = c.loop-passed.invariant in (
-      c.loop-passed.passed,
-      ends_at (omega (arith, c.loop-passed-test.true, c.requires.counted)) i.there i.passed i.others
-          (omega (arith, i.looked, c.in-Empty.ensures.counts)),
-      omega (arith, c.in-Empty.ensures.sees.1),
-    )
-
 pub returns-then-same-clause-ends : goal.returns-then-same-clause-ends
 returns-then-same-clause-ends g c =
     let i = c.loop-passed.invariant in
@@ -85,15 +70,6 @@ returns-then-same-clause-ends g c =
           (omega (arith, i.looked, c.in-Resident.ensures.counts)),
       sees.0,
       sym sees.2 ∙ c.if-same.true,
-    )
-
-pub returns-then-distance-passed-clause-ends : goal.returns-then-distance-passed-clause-ends
-returns-then-distance-passed-clause-ends g c =
-    let i = c.loop-passed.invariant in (
-      c.loop-passed.passed,
-      ends_at (omega (arith, c.loop-passed-test.true, c.requires.counted)) i.there i.passed i.others
-          (omega (arith, i.looked, c.in-Resident.ensures.counts)),
-      omega (arith, c.in-Resident.ensures.sees.1, c.if-distance-passed.true),
     )
 
 pub returns-clause-ends : goal.returns-clause-ends
@@ -107,7 +83,3 @@ returns-clause-ends g c =
       subst (PassedOthers (p.slots target) (p.seeks target) c.args.home) all i.others,
       omega (arith, i.looked, all),
     )
-
--- given for speed: the default tactics take longer
-pub returns-in-Empty-clause-grows : goal.returns-in-Empty-clause-grows
-returns-in-Empty-clause-grows g c = omega (arith, c.in-Empty.ensures.counts, c.loop-passed.invariant.looked)

@@ -1,5 +1,4 @@
 use Rattle.std.proofs.Common.{false, ◌≡◌, ℕ, ◌+◌, ◌%◌, ◌<◌, ◌≤◌, List, length, get_or, set, Option, Some, None, arith, ap, sym, ◌∙◌, subst}
-use Rattle.std.proofs.lemmas.Grind.{common_steps}
 use Rattle.std.proofs.lemmas.List.{length-set}
 use Rattle.ijson_table.specs.declared.slot.Slot.{Slot}
 use Rattle.ijson_table.specs.Crowd.{distance}
@@ -144,29 +143,3 @@ loop-modulus-preserved g c =
       size = ap length to.now_is ∙ (length-set (set c.loop-modulus.slots gap behind) next c.empty.result
           ∙ (length-set c.loop-modulus.slots gap behind ∙ was.size));
     }
-
--- given for speed: the default tactics take longer
-pub new-modulus-requires : goal.new-modulus-requires
-new-modulus-requires g c = grind (arith, common_steps)
-
-pub next_slot-next-requires : goal.next_slot-next-requires
-next_slot-next-requires g c = grind (arith, common_steps)
-
-pub set-requires-clause-fits : goal.set-requires-clause-fits
-set-requires-clause-fits g c = c.at-behind.ensures.fits
-
-pub set-requires-in-loop-modulus-clause-fits : goal.set-requires-in-loop-modulus-clause-fits
-set-requires-in-loop-modulus-clause-fits g c =
-    λ few. subst (λ s. (s.code < 256) × (s.hash < 65536)) (sym c.empty.ensures) (omega arith, omega arith)
-
-pub at-behind-requires : goal.at-behind-requires
-at-behind-requires c = omega arith
-
-pub distance-requires : goal.distance-requires
-distance-requires c = omega arith
-
-pub returns-then-is_empty-clause-count : goal.returns-then-is_empty-clause-count
-returns-then-is_empty-clause-count c = omega arith
-
-pub returns-then-is_empty-clause-placed : goal.returns-then-is_empty-clause-placed
-returns-then-is_empty-clause-placed c = omega arith

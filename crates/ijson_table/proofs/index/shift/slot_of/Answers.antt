@@ -1,6 +1,5 @@
 use Rattle.std.proofs.Common.{◌≡◌, ℕ, ◌%◌, ◌+◌, ◌-◌, ◌<◌, ◌≤◌, ◌⊎◌, List, length, get_or, Some, true, false, Bool, eqb, arith, ap, subst, sym, ◌∙◌}
 use Rattle.std.proofs.Common.{inl, inr}
-use Rattle.std.proofs.lemmas.Bool.Decides.{nat_tests}
 use Rattle.std.proofs.Math.Nat.{mod-lt}
 use Rattle.std.proofs.lemmas.Bool.{cases_lt}
 use Rattle.ijson_table.specs.declared.slot.Slot.{Slot}
@@ -36,12 +35,6 @@ returns-clause-within c =
       ends.1.there,
       size,
     )
-
-pub returns-clause-there : goal.returns-clause-there
-returns-clause-there c =
-    let ends = c.in-Found.ensures.ends in
-    let same : c.in-Found.at ≡ c.args.position = grind (arith, nat_tests, ends.3) in
-    ends.2 ∙ ap Some same
 
 -- the probe does not pass the index, and does not end before it
 not_before : (hashes : List ℕ) (slots : List Slot) (position hash m : ℕ) → hash ≡ get_or hashes position 0 → HaveHashes hashes slots

@@ -1,5 +1,4 @@
 use Rattle.std.proofs.Common.{◌≡◌, ◌<◌, ℕ, List, length, set, Option, None, arith, ap, sym, ◌∙◌, subst}
-use Rattle.std.proofs.lemmas.List.{length-set}
 use Rattle.ijson_table.specs.Slots.{times}
 use Rattle.ijson_table.specs.private.Holds.{one_if, HasGap}
 use Rattle.ijson_table.specs.private.Insertion.{IsTableOf}
@@ -59,14 +58,3 @@ returns-clause-holds g c =
             table.table.placed i,
           );
     }
-
-pub returns-clause-count : goal.returns-clause-count
-returns-clause-count g c = omega (
-  arith,
-  c.shift_back.ensures.count,
-  ap length c.set.ensures,
-  length-set c.args.slots.now c.slot_of-slot.result c.empty.result,
-)
-
-pub set-requires-clause-fits : goal.set-requires-clause-fits
-set-requires-clause-fits g c = λ few. subst (λ s. (s.code < 256) × (s.hash < 65536)) (sym c.empty.ensures) (omega arith, omega arith)

@@ -2,7 +2,6 @@ use Rattle.std.proofs.Common.{◌≡◌, ℕ, ◌+◌, ◌-◌, ◌%◌, ◌<◌
 use Rattle.std.proofs.Math.Nat.{mod-lt}
 use Rattle.std.proofs.lemmas.Bool.Decides.{nat_tests}
 use Rattle.std.specs.Prelude.{vec_capacity}
-use Rattle.ijson_table.specs.declared.index.probe.Probed.TheVariants.{Full}
 use Rattle.ijson_table.specs.Slots.{IsTable, IsBounded}
 use Rattle.ijson_table.specs.Placed.{Placed}
 use Rattle.ijson_table.specs.Store.{keys_of}
@@ -12,7 +11,7 @@ use Rattle.ijson_table.specs.private.KeptHash.{kept, kept_hash}
 use Rattle.ijson_table.specs.private.Lookup.{LookUpEnds}
 use Rattle.ijson_table.proofs.pairs.Shown.{hashes_in}
 use Rattle.ijson_table.proofs.probing.LookCount.{within_list}
-use Rattle.ijson_table.proofs.probing.KeyHashes.{table_whole, find_ends, find_bounded, nowhere}
+use Rattle.ijson_table.proofs.probing.KeyHashes.{find_ends, find_bounded}
 use Rattle.ijson_table.proofs.shifting.Insertion.{some_empty}
 use Rattle.ijson_table.proofs.slots.KeptHashes.{home_of_kept, ends_by_hash, bounded_by_hash}
 use Rattle.ijson_table.proofs.table.Table.find.Goals.{After-len-slots, After-probe_for}
@@ -46,18 +45,6 @@ spare : (g : _) (c : After-len-slots g) → length c.args.self.now.store.pairs <
 spare g c = subst (λ (t : Placed g.row.V.Denot). length t.store.pairs < t.store.capacity → HasEmpty t.slots) c.self.view_is
     (λ room. left_empty c.self.inside.index.hashes c.self.inside.index.slots c.len-slots.ensures.table
     (omega (arith, room, hashes_in c.self.invariant, c.self.invariant.size)))
-
-pub returns-then-slots-eq0-clause-empty : goal.returns-then-slots-eq0-clause-empty
-returns-then-slots-eq0-clause-empty g c = spare g (goal.at.returns-then-slots-eq0-clause-empty g c).After-len-slots
-
-pub returns-then-slots-eq0-clause-ends : goal.returns-then-slots-eq0-clause-ends
-returns-then-slots-eq0-clause-ends g c =
-    let hash = g.H.KeyHash.hash_of in
-    subst (λ (t : Placed g.row.V.Denot). LookUpEnds (map hash (keys_of t.store.pairs)) (keys_of t.store.pairs) t.slots
-    (hash c.args.key.now) c.args.key.now Full) c.self.view_is
-    (nowhere hash c.self.inside.pairs.items c.self.inside.index.slots c.args.key.now
-    (table_whole hash c.self.inside.pairs.items c.self.inside.index c.self.invariant.hashes c.len-slots.ensures.table)
-    (omega (arith, c.if-slots-eq0.true, c.len-slots.ensures.count)))
 
 pub returns-then-slots-eq0-clause-bounded : goal.returns-then-slots-eq0-clause-bounded
 returns-then-slots-eq0-clause-bounded g c = record {

@@ -20,22 +20,6 @@ room g c = omega (arith, c.requires.room, count_shown c.self.view_is, room_shown
 next : (g : _) (c : After-len-position g) → c.len-position.result ≡ length c.self.inside.index.hashes
 next g c = omega (arith, c.len-position.ensures, c.self.inside.pairs.ok.0, hashes_in c.self.invariant)
 
-pub push_reserved-requires : goal.push_reserved-requires
-push_reserved-requires g c =
-    omega (arith, room g (goal.at.push_reserved-requires g c).After-len-position, c.self.inside.pairs.ok.0)
-
-pub push_at-requires-clause-position : goal.push_at-requires-clause-position
-push_at-requires-clause-position g c = next g (goal.at.push_at-requires-clause-position g c).After-len-position
-
-pub push_at-requires-clause-room : goal.push_at-requires-clause-room
-push_at-requires-clause-room g c = omega (
-  arith,
-  c.len-position.ensures,
-  c.self.inside.pairs.ok.0,
-  room g (goal.at.push_at-requires-clause-room g c).After-len-position,
-  c.self.invariant.size,
-)
-
 -- the hash index gets the kept part of the hash
 kept_is : (g : _) (c : After-kept_hash-kept g) → c.kept_hash-kept.result ≡ kept (length c.self.inside.index.slots) c.args.hash
 kept_is g c = c.kept_hash-kept.ensures ∙ ap (λ n. kept n c.args.hash) (c.new.ensures ∙ c.len.ensures.count)
@@ -89,13 +73,3 @@ invariant_of-self g c =
           (sym c.push_at.ensures.count) (sym pushed))));
       size = c.push_at.ensures.count ∙ (c.self.invariant.size ∙ ap slot_count (sym c.push_reserved.ensures.capacity));
     }
-
-pub returns-clause-pairs : goal.returns-clause-pairs
-returns-clause-pairs g c = c.push_reserved.ensures.items
-    ∙ ap (λ (t : Placed g.row.V.Denot). t.store.pairs ++ (c.args.key, c.args.value) ∷ []) c.self.view_is
-
-pub returns-clause-capacity : goal.returns-clause-capacity
-returns-clause-capacity g c = c.push_reserved.ensures.capacity ∙ room_shown c.self.view_is
-
-pub new-requires : goal.new-requires
-new-requires g c = omega (arith, c.len.ensures.count, c.self.invariant.size, room g (goal.at.new-requires g c).After-len-position)

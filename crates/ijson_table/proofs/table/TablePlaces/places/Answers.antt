@@ -1,4 +1,4 @@
-use Rattle.std.proofs.Common.{length, map, subst, ap, ◌∙◌}
+use Rattle.std.proofs.Common.{map, subst}
 use Rattle.ijson_table.specs.Placed.{Placed}
 use Rattle.ijson_table.specs.Slots.{IsTable}
 use Rattle.ijson_table.specs.Store.{keys_of}
@@ -9,6 +9,3 @@ pub returns-clause-table : goal.returns-clause-table
 returns-clause-table g c =
     subst (λ (t : Placed g.row.V.Denot). IsTable (map g.H.KeyHash.hash_of (keys_of t.store.pairs)) t.slots) c.self.view_is
     (table_whole g.H.KeyHash.hash_of c.self.inside.pairs.items c.self.inside.index c.self.invariant.hashes c.len.ensures.table)
-
-pub returns-clause-count : goal.returns-clause-count
-returns-clause-count g c = c.len.ensures.count ∙ ap (λ (t : Placed g.row.V.Denot). length t.slots) c.self.view_is

@@ -22,9 +22,6 @@ read g c = read_at g.S.StoredSlot.stands_for c.args.self.now.slots.now c.args.sl
     c.args.self.now.table c.requires.within c.index-self-slot.is
     (c.widened-there.ensures.value ∙ ap g.S.StoredSlot.stands_for (sym c.index-self-slot.is))
 
-pub resident-requires : goal.resident-requires
-resident-requires g c = λ none. let full = c.is_empty.ensures.1 none in let tested = c.if-is_empty.false in absurd (cc (full, tested))
-
 pub has_key-same-requires : goal.has_key-same-requires
 has_key-same-requires g c =
     let place = (goal.at.has_key-same-requires g c).After-widened-there in
