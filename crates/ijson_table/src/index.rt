@@ -98,8 +98,13 @@ impl Index {
         ensures copied { IfOk result (λ list. list ≡ self.now) }
         ensures refused { OnErr result (0 < length self.now.slots) }
     {
+        let stored = match &self.slots.stored {
+            Stored::Few(few) => Stored::Few(*few),
+            Stored::Narrow(slots) => Stored::Narrow(Vec::from_slice(alloc, slots)?),
+            Stored::Wide(slots) => Stored::Wide(Vec::from_slice(alloc, slots)?),
+        };
         Ok(Index {
-            slots: self.slots.copied(alloc)?,
+            slots: Slots { stored },
         })
     }
 

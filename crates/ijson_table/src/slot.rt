@@ -34,7 +34,8 @@ pub enum Seen {
 pub struct Slot {
     /// 0 if empty, else the index plus one.
     code: usize,
-    hash: u64,
+    /// The hash of the key of the resident, or the kept part of it.
+    pub hash: u64,
 }
 
 impl Slot {
@@ -55,13 +56,6 @@ impl Slot {
             code: position + 1,
             hash,
         }
-    }
-
-    /// Returns the hash of the key of the resident.
-    pub fn hash(self) -> u64
-        ensures { result ≡ self.hash }
-    {
-        self.hash
     }
 
     /// Returns whether the slot is empty.
@@ -110,13 +104,6 @@ impl Slot {
             code: self.code - 1,
             hash: self.hash,
         }
-    }
-
-    /// Returns whether the key of the resident has this hash.
-    pub fn has_hash(self, hash: u64) -> bool
-        ensures { IsTrue result ↔ (self.hash ≡ hash) }
-    {
-        self.hash == hash
     }
 
     /// Returns the result of an inspection; `same` is whether the resident is the one sought.

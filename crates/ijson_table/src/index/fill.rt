@@ -44,7 +44,7 @@ impl Index {
         }
         let modulus = Modulus::new(self.slots.len());
         let start = first_in_row(sorted, modulus);
-        let first = modulus.home_of_hash(sorted[start].hash());
+        let first = modulus.home_of_hash(sorted[start].hash);
         place_sorted(&mut self.slots, sorted, modulus, start, first);
     }
 }
@@ -61,9 +61,9 @@ fn first_in_row(sorted: &[Slot], modulus: Modulus) -> usize
         ≤ home_in modulus.count (get_or sorted.now result blank) + k }
 {
     let mut start = 0;
-    let mut first = modulus.home_of_hash(sorted[0].hash());
+    let mut first = modulus.home_of_hash(sorted[0].hash);
     for index in 1..sorted.len() {
-        let home = modulus.home_of_hash(sorted[index].hash());
+        let home = modulus.home_of_hash(sorted[index].hash);
         if home - first >= index - start {
             start = index;
             first = home;
@@ -90,7 +90,7 @@ fn place_sorted(slots: &mut Slots, sorted: &[Slot], modulus: Modulus, start: usi
     let mut next = 0;
     for _step in 0..sorted.len() {
         let entry = sorted[index];
-        let home = modulus.home_of_hash(entry.hash());
+        let home = modulus.home_of_hash(entry.hash);
         let steps = next.max(distance_between(modulus.count, first, home));
         slots.set(steps_on(slots.len(), first, steps), entry);
         next = steps + 1;

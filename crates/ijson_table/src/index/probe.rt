@@ -137,7 +137,7 @@ impl<'a, 'i, V, S: StoredSlot + Copy> ProbeTarget for Lookup<'a, 'i, V, S> {
         if there.is_empty() {
             return Seen::Empty;
         }
-        let same = there.has_hash(self.hash) && has_key(self.pairs, there.resident(), self.key);
+        let same = there.hash == self.hash && has_key(self.pairs, there.resident(), self.key);
         there.seen(self.modulus, slot, same)
     }
 }

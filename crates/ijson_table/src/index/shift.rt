@@ -144,7 +144,7 @@ impl Index {
     {
         take_out(&mut self.slots, position, hash);
         let there = slot_of(&self.slots, last, last_hash);
-        let moved = self.slots.at(there).hash();
+        let moved = self.slots.at(there).hash;
         self.slots.set(there, Slot::of(position, moved));
     }
 

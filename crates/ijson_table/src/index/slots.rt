@@ -120,17 +120,4 @@ impl Slots {
             Stored::Wide(slots) => shift_forward(slots, from, position, hash),
         }
     }
-
-    /// Returns a copy of the slots.
-    pub fn copied(&self, alloc: Global) -> Result<Slots, AllocError>
-        ensures copied { IfOk result (λ slots. slots ≡ self.now) }
-        ensures refused { OnErr result (0 < length self.now) }
-    {
-        let stored = match &self.stored {
-            Stored::Few(few) => Stored::Few(*few),
-            Stored::Narrow(slots) => Stored::Narrow(Vec::from_slice(alloc, slots)?),
-            Stored::Wide(slots) => Stored::Wide(Vec::from_slice(alloc, slots)?),
-        };
-        Ok(Slots { stored })
-    }
 }

@@ -50,5 +50,5 @@ fn has_same_key<V>(pairs: &[(IString, V)], first: Slot, second: Slot) -> bool
     ensures { IsTrue result ↔ ((first.hash ≡ second.hash)
         × (entry_key (keys_of pairs.now) first ≡ entry_key (keys_of pairs.now) second)) }
 {
-    first.has_hash(second.hash()) && key_of(pairs, first) == key_of(pairs, second)
+    first.hash == second.hash && key_of(pairs, first) == key_of(pairs, second)
 }

@@ -44,7 +44,7 @@ place_sorted-requires g c =
           can_lay g.hashes (length slots) c.new-modulus.result.count c.first_in_row-start.result c.home_of_hash-first.result
               c.args.sorted.now (subst (λ n. AreInHomeOrder g.hashes n c.args.sorted.now) same c.requires.1.1.0)
               (omega (arith, c.requires.1.0, same)) counted c.first_in_row-start.ensures.within c.home_of_hash-first.ensures.within
-              (c.home_of_hash-first.ensures.value ∙ ap (λ h. h % c.new-modulus.result.count) c.hash.ensures)
+              c.home_of_hash-first.ensures.value
               c.first_in_row-start.ensures.greatest,
           subst (λ n. All (Fits n) c.args.sorted.now) same (all_fit g.hashes (length c.args.self.now.slots)
               c.args.sorted.now c.requires.1.1.0 c.requires.1.0 c.requires.1.1.1),

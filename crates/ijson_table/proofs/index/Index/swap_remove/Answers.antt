@@ -52,11 +52,11 @@ left c =
     let held = c.take_out.ensures.holds in
     let there : ℕ = c.slot_of-there.result in
     let lp : there < length (positions left) = omega (arith, c.slot_of-there.ensures.within, positions-length left) in
-    let kept : c.hash-moved.result ≡ get_or hashes last 0 =
-    c.hash-moved.ensures ∙ (ap (λ (s : Slot). s.hash) c.at.ensures.value ∙ hashes-at hashes left there c.take_out.ensures.hashes
+    let kept : c.at-moved.result.hash ≡ get_or hashes last 0 =
+    ap (λ (s : Slot). s.hash) c.at-moved.ensures.value ∙ hashes-at hashes left there c.take_out.ensures.hashes
     c.slot_of-there.ensures.within last
     (sym (position-at left there (position_in (get_or left there blank)) c.slot_of-there.ensures.within refl)
-    ∙ c.slot_of-there.ensures.there)) in
+    ∙ c.slot_of-there.ensures.there) in
     let moved : get_or (swap_remove hashes position 0) position 0 ≡ get_or hashes last 0 =
     swap_remove-same hashes position (omega (arith, ends.within, ends.is_last))
     ∙ ap (λ x. get_or hashes x 0) (omega (arith, ends.is_last)) in
@@ -104,4 +104,4 @@ set-requires-clause-fits c =
     let ends = ends_at (goal.at.set-requires-clause-fits c).After-take_out in
     fits_at (length c.take_out.new.slots) c.of.result c.args.position c.of.ensures.position
     (λ few. omega (arith, few, c.self.invariant.room, ends.within, ends.is_last, c.take_out.ensures.count))
-    (λ few. subst (λ h. h < 65536) (sym (c.of.ensures.hash ∙ c.hash-moved.ensures)) (c.at.ensures.fits few).1)
+    (λ few. subst (λ h. h < 65536) (sym c.of.ensures.hash) (c.at-moved.ensures.fits few).1)

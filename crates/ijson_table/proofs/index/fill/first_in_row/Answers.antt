@@ -8,7 +8,7 @@ pub overflow_sub-home : goal.overflow_sub-home
 overflow_sub-home c =
     let n : ℕ = c.args.modulus.count in
     let home : c.home_of_hash-home.result ≡ home_in n (get_or c.args.sorted.now c.loop-index.index blank) =
-    c.home_of_hash-home.ensures.value ∙ ap (λ h. h % n) c.hash-in-loop-index.ensures in
+    c.home_of_hash-home.ensures.value in
     omega (
       arith,
       home,

@@ -80,7 +80,7 @@ loop-step-init g c =
 steps_home : (g : _) (c : After-max-steps g) → c.distance_between.result
     ≡ behind c.args.modulus.count c.args.first (get_or c.args.sorted.now c.loop-step.index blank)
 steps_home g c = c.distance_between.ensures
-    ∙ ap (distance c.args.modulus.count c.args.first) (c.home_of_hash-home.ensures.value ∙ ap (λ h. h % c.args.modulus.count) c.hash.ensures)
+    ∙ ap (distance c.args.modulus.count c.args.first) c.home_of_hash-home.ensures.value
 
 -- there is such a slot
 inside : (g : _) (c : After-max-steps g) → c.max-steps.result < length c.loop-step.slots

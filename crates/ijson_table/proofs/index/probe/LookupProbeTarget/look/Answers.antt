@@ -1,4 +1,5 @@
-use Rattle.std.proofs.Common.{◌≡◌, ◌≢◌, ℕ, List, [], get_or, map, Option, Some, None, Bool, IsTrue, ◌↔◌, arith, ap, sym, subst, ◌∙◌}
+use Rattle.std.proofs.Common.{◌≡◌, ◌≢◌, ℕ, List, [], get_or, map, Option, Some, None, Bool, false, eqb, IsTrue, ◌↔◌, arith, ap, sym, subst, ◌∙◌}
+use Rattle.std.proofs.lemmas.Bool.Decides.{nat_tests}
 use Rattle.std.proofs.lemmas.List.{length-map}
 use Rattle.std.specs.Str.{bytes_eq}
 use Rattle.ijson_table.specs.declared.slot.Slot.{Slot}
@@ -10,7 +11,7 @@ use Rattle.ijson_table.proofs.probing.KeyTests.{ReadAt, read_at, same_test, same
 use Rattle.ijson_table.proofs.probing.ProbePath.{displacement-none, in_list}
 use Rattle.ijson_table.proofs.slots.HashesInSlots.{positions-length}
 use Rattle.ijson_table.proofs.index.probe.LookupProbeTarget.look.Goals as goal
-use Rattle.ijson_table.proofs.index.probe.LookupProbeTarget.look.Goals.{After-widened-there, then-has_hash, else-has_hash}
+use Rattle.ijson_table.proofs.index.probe.LookupProbeTarget.look.Goals.{After-widened-there, then-there-self, else-there-self}
 
 -- the represented slots
 abbrev slots_seen : (g : _) (c : After-widened-there g) → List Slot
@@ -51,21 +52,20 @@ returns-clause-sees g c =
     let there = c.widened-there.result in
     let test : ℕ → Bool = is_hashed_key hashes keys self.hash self.key.now in
     let size = self.counted ∙ (sym (length-map self.slots.now g.S.StoredSlot.stands_for) ∙ sym (positions-length slots)) in
-    let sought : (i : ℕ) → position_in there ≡ Some i → c.if-has_hash.same ≡ test i = λ i e.
+    let sought : (i : ℕ) → position_in there ≡ Some i → c.if-there-self.same ≡ test i = λ i e.
     let hashed : there.hash ≡ get_or hashes i 0 = was.hash i e in
-    elim c.if-has_hash.branch [
-      | then-has_hash w ↦
+    elim c.if-there-self.branch [
+      | then-there-self w ↦
           let who : ◌≡◌ {A = Option ℕ} (Some w.resident.result) (Some i) = sym w.resident.ensures ∙ e in
           let at : w.resident.result ≡ i = cc in
           w.same-is ∙ (same_test w.has_key-same.result (get_or keys i []) self.key.now
           (subst (λ n. IsTrue w.has_key-same.result ↔ (get_or keys n [] ≡ self.key.now)) at w.has_key-same.ensures)
           ∙ same_hash (get_or hashes i 0) self.hash (bytes_eq (get_or keys i []) self.key.now)
-          (sym hashed ∙ c.has_hash.ensures.0 w.if-has_hash.true))
-      | else-has_hash w ↦
-          let apart : get_or hashes i 0 ≢ self.hash = λ same. let up = c.has_hash.ensures.1 (hashed ∙ same) in let down =
-          w.if-has_hash.false in absurd (cc (up, down)) in
-          w.same-is ∙ (w.if-has_hash.false
-          ∙ other_hash (get_or hashes i 0) self.hash (bytes_eq (get_or keys i []) self.key.now) apart)
+          (sym hashed ∙ w.if-there-self.true))
+      | else-there-self w ↦
+          let no_it : eqb there.hash self.hash ≡ false = grind (arith, nat_tests, w.if-there-self.false) in
+          w.same-is ∙ (no_it ∙ other_hash (get_or hashes i 0) self.hash (bytes_eq (get_or keys i []) self.key.now)
+          (λ same. w.if-there-self.false (hashed ∙ same)))
     ] in
-    looks_at_slot hashes (positions slots) c.args.slot there c.if-has_hash.same test c.seen.result was.position was.hash
-    (subst (λ n. SeenAs there n c.args.slot c.if-has_hash.same c.seen.result) size c.seen.ensures) sought
+    looks_at_slot hashes (positions slots) c.args.slot there c.if-there-self.same test c.seen.result was.position was.hash
+    (subst (λ n. SeenAs there n c.args.slot c.if-there-self.same c.seen.result) size c.seen.ensures) sought
