@@ -1,6 +1,5 @@
-use Rattle.std.proofs.Common.{◌≡◌, ◌<◌, ℕ, None, [], ◌∷◌, ◌++◌, List, length, arith, ap, sym, ◌∙◌, subst}
+use Rattle.std.proofs.Common.{◌≡◌, ◌<◌, ℕ, [], ◌∷◌, ◌++◌, List, length, arith, ap, sym, ◌∙◌, subst}
 use Rattle.ijson_table.specs.declared.slot.Slot.{Slot}
-use Rattle.ijson_table.specs.Slots.{resident}
 use Rattle.ijson_table.specs.private.Holds.{MayStand}
 use Rattle.ijson_table.specs.private.KeptHash.{kept}
 use Rattle.ijson_table.specs.private.SlotHashes.{positions, hashes_of}
@@ -48,15 +47,3 @@ invariant_of-self c = (left c).index
 pub returns-clause-hashes : goal.returns-clause-hashes
 returns-clause-hashes c = (left c).is
     ∙ ap (λ (l : HashIndex). l.hashes ++ c.args.hash ∷ []) c.self.view_is
-
-pub returns-clause-within : goal.returns-clause-within
-returns-clause-within c = omega (
-  arith,
-  c.shift_forward.ensures.within,
-  positions-length c.self.inside.slots,
-  ap (λ (l : HashIndex). length l.slots) c.self.view_is,
-)
-
-pub returns-clause-empty : goal.returns-clause-empty
-returns-clause-empty c =
-    subst (λ (l : HashIndex). resident l.slots c.shift_forward.result ≡ None) c.self.view_is c.shift_forward.ensures.empty

@@ -88,17 +88,6 @@ pub returns-clause-hashes : goal.returns-clause-hashes
 returns-clause-hashes c = (left (goal.at.returns-clause-hashes c).After-set).is
     ∙ ap (λ (l : HashIndex). swap_remove l.hashes c.args.position 0) c.self.view_is
 
-pub returns-clause-count : goal.returns-clause-count
-returns-clause-count c = omega (
-  arith,
-  positions-length c.set.new.self,
-  ap length c.set.ensures,
-  length-set c.take_out.new.slots c.slot_of-there.result c.of.result,
-  c.take_out.ensures.count,
-  positions-length c.self.inside.slots,
-  ap (λ (l : HashIndex). length l.slots) c.self.view_is,
-)
-
 pub set-requires-clause-fits : goal.set-requires-clause-fits
 set-requires-clause-fits c =
     let ends = ends_at (goal.at.set-requires-clause-fits c).After-take_out in
