@@ -84,14 +84,6 @@ impl Slot {
         }
     }
 
-    /// Returns the distance of `slot` from the home slot of its resident.
-    pub fn distance(self, modulus: Modulus, slot: usize) -> usize
-        requires { slot < modulus.count }
-        ensures { result ≡ distance modulus.count (self.hash % modulus.count) slot }
-    {
-        distance_between(modulus.count, modulus.home_of_hash(self.hash), slot)
-    }
-
     /// Returns the slot after index `gone` was removed: later indices decrease by one.
     pub fn closed(self, gone: usize) -> Slot
         requires { gone + 1 < 2 ^ 64 }
@@ -116,7 +108,7 @@ impl Slot {
         }
         Seen::Resident {
             at: self.resident(),
-            distance: self.distance(modulus, slot),
+            distance: distance_between(modulus.count, modulus.home_of_hash(self.hash), slot),
             same,
         }
     }

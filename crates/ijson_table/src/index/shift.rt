@@ -13,7 +13,7 @@ ghost use Rattle.std.specs.List.{remove, swap_remove as swapped_out};
 use crate::index::Index;
 use crate::index::probe::{ProbeTarget, Probed, next_slot, probe};
 use crate::index::slots::Slots;
-use crate::slot::{Modulus, Seen, Slot};
+use crate::slot::{Modulus, Seen, Slot, distance_between};
 use ijson_number::Looks;
 
 /// A probe that compares no keys.
@@ -99,7 +99,8 @@ fn shift_back(slots: &mut Slots, from: usize)
     loop {
         let next = next_slot(count, gap);
         let behind = slots.at(next);
-        if behind.is_empty() || behind.distance(modulus, next) == 0 {
+        let home = modulus.home_of_hash(behind.hash);
+        if behind.is_empty() || distance_between(modulus.count, home, next) == 0 {
             return;
         }
         slots.set(gap, behind);

@@ -11,7 +11,7 @@ use Rattle.ijson_table.proofs.slots.HashesInSlots.{positions-length, positions-p
 use Rattle.ijson_table.proofs.slots.HashesInSlots.{hashes-set, displacement-read}
 use Rattle.ijson_table.proofs.slots.Residents.{some_position}
 use Rattle.ijson_table.proofs.index.shift.shift_back.Goals.{After-is_empty, After-set-in-loop-modulus, then-is_empty-via-then-is_empty}
-use Rattle.ijson_table.proofs.index.shift.shift_back.Goals.{then-is_empty-via-else-is_empty+then-distance-eq0}
+use Rattle.ijson_table.proofs.index.shift.shift_back.Goals.{then-is_empty-via-else-is_empty+then-distance_between-eq0}
 use Rattle.ijson_table.proofs.index.shift.shift_back.Goals as goal
 
 -- the displacement of a resident, by its distance
@@ -66,8 +66,13 @@ returns-then-is_empty-clause-ordered g c =
           let none : None ≡ position_in (get_or slots next blank) =
           sym (c.is_empty.ensures.0 w.if-is_empty.true) ∙ ap position_in c.at-behind.ensures.value in
           omega (arith, displacement-none g.hashes (positions slots) next (position-at slots next None (within g at) none))
-      | then-is_empty-via-else-is_empty+then-distance-eq0 w ↦
-          omega (arith, far_by g at w.if-is_empty.false w.distance.result w.distance.ensures, w.if-distance-eq0.true)
+      | then-is_empty-via-else-is_empty+then-distance_between-eq0 w ↦
+          omega (
+            arith,
+            far_by g at w.if-is_empty.false w.distance_between.result
+                (w.distance_between.ensures ∙ ap (λ h. distance c.new-modulus.result.count h c.next_slot-next.result) c.home_of_hash-home.ensures.value),
+            w.if-distance_between-eq0.true,
+          )
     ])
 
 -- If it is not at home, it moves back by one slot.
@@ -102,8 +107,9 @@ moves g c =
       stood = ap (resident (positions slots)) (sym reached) ∙ position-at slots next (Some k) (within g place.After-is_empty) read;
       far = omega (
         arith,
-        far_by g place.After-is_empty c.if-is_empty.false c.distance.result c.distance.ensures,
-        c.if-distance-eq0.false,
+        far_by g place.After-is_empty c.if-is_empty.false c.distance_between.result
+            (c.distance_between.ensures ∙ ap (λ h. distance c.new-modulus.result.count h c.next_slot-next.result) c.home_of_hash-home.ensures.value),
+        c.if-distance_between-eq0.false,
         ap (displacement g.hashes (positions slots)) reached,
       );
       now_is = now_is;
