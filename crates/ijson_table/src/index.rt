@@ -86,7 +86,7 @@ impl Index {
         } else if count <= NARROW_SLOTS {
             Stored::Narrow(vec![in alloc; NarrowSlot::EMPTY; count]?)
         } else {
-            Stored::Wide(vec![in alloc; Slot::empty(); count]?)
+            Stored::Wide(vec![in alloc; Slot::EMPTY; count]?)
         };
         Ok(Index {
             slots: Slots { stored },
@@ -199,7 +199,7 @@ impl Index {
         match &mut self.slots.stored {
             Stored::Few(few) => few.slots.fill(NarrowSlot::EMPTY),
             Stored::Narrow(slots) => slots.fill(NarrowSlot::EMPTY),
-            Stored::Wide(slots) => slots.fill(Slot::empty()),
+            Stored::Wide(slots) => slots.fill(Slot::EMPTY),
         }
     }
 }

@@ -39,12 +39,8 @@ pub struct Slot {
 }
 
 impl Slot {
-    /// Returns the empty slot.
-    pub fn empty() -> Slot
-        ensures { result ≡ blank }
-    {
-        Slot { code: 0, hash: 0 }
-    }
+    /// The empty slot.
+    pub const EMPTY: Slot = Slot { code: 0, hash: 0 };
 
     /// Returns the slot of index `position`, whose key has this hash.
     pub fn of(position: usize, hash: u64) -> Slot

@@ -104,7 +104,7 @@ fn shift_back(slots: &mut Slots, from: usize)
             return;
         }
         slots.set(gap, behind);
-        slots.set(next, Slot::empty());
+        slots.set(next, Slot::EMPTY);
         gap = next;
     }
 }
@@ -120,7 +120,7 @@ fn take_out(slots: &mut Slots, position: usize, hash: u64)
     ensures count { length slots.new ≡ length slots.old }
 {
     let slot = slot_of(slots, position, hash);
-    slots.set(slot, Slot::empty());
+    slots.set(slot, Slot::EMPTY);
     shift_back(slots, slot);
 }
 

@@ -4,7 +4,6 @@ use Rattle.ijson_table.specs.declared.index.Index.TheInside.{Inside}
 use Rattle.ijson_table.specs.declared.index.slots.TheConstants.{FEW_SLOTS}
 use Rattle.ijson_table.specs.private.Narrow.{widened}
 use Rattle.ijson_table.specs.private.NarrowSlots.{stored_slots, IsStoredByCount}
-use Rattle.ijson_table.specs.private.SlotHashes.{position_in}
 use Rattle.ijson_table.proofs.slots.IndexInvariant.{empty_index, IsIndexOf}
 use Rattle.ijson_table.proofs.slots.StoredSlots.{few-empty, few-length, narrow-empty, wide-empty}
 use Rattle.ijson_table.proofs.index.Index.clear.Goals.{After-fill, After-fill-in-Narrow, After-fill-in-Wide}
@@ -25,7 +24,7 @@ narrow c = empty_index (map widened c.fill-in-Narrow.new.self.items)
 
 wide : (c : After-fill-in-Wide) → IsIndexOf [] c.fill-in-Wide.new.self.items
 wide c = empty_index c.fill-in-Wide.new.self.items
-    (wide-empty _ _ c.empty.result (c.fill-in-Wide.ensures.items (λ _ e. e)) (ap position_in c.empty.ensures))
+    (wide-empty _ _ _ (c.fill-in-Wide.ensures.items (λ _ e. e)) refl)
     (omega (
       arith,
       c.fill-in-Wide.ensures.len,

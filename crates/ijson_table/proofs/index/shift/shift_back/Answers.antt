@@ -1,4 +1,4 @@
-use Rattle.std.proofs.Common.{false, ◌≡◌, ℕ, ◌+◌, ◌%◌, ◌<◌, ◌≤◌, List, length, get_or, set, Option, Some, None, arith, ap, sym, ◌∙◌, subst}
+use Rattle.std.proofs.Common.{false, ◌≡◌, ℕ, ◌+◌, ◌%◌, ◌<◌, ◌≤◌, List, length, get_or, set, Option, Some, None, arith, ap, refl, sym, ◌∙◌, subst}
 use Rattle.std.proofs.lemmas.List.{length-set}
 use Rattle.ijson_table.specs.declared.slot.Slot.{Slot}
 use Rattle.ijson_table.specs.Crowd.{distance}
@@ -76,19 +76,19 @@ returns-then-is_empty-clause-ordered g c =
     ])
 
 -- If it is not at home, it moves back by one slot.
-record Moves (hashes : List ℕ) (slots : List Slot) (gap next k : ℕ) (empty : Slot) (now : List Slot) : Type 0 where
+record Moves (hashes : List ℕ) (slots : List Slot) (gap next k : ℕ) (now : List Slot) : Type 0 where
   pub there : next ≡ after (length (positions slots)) gap
   pub within : next < length slots
   pub stood : resident (positions slots) (after (length (positions slots)) gap) ≡ Some k
   pub far : 1 < displacement hashes (positions slots) (after (length (positions slots)) gap)
-  pub now_is : now ≡ set (set slots gap (get_or slots next blank)) next empty
+  pub now_is : now ≡ set (set slots gap (get_or slots next blank)) next blank
   pub moved : positions now ≡ set (set (positions slots) gap (Some k)) (after (length (positions slots)) gap) None
 
 abbrev it : (g : _) (c : After-set-in-loop-modulus g) → ℕ
 it g c = (stands g (goal.at.loop-modulus-smaller g c).After-is_empty c.if-is_empty.false).0
 
 moves : (g : _) (c : After-set-in-loop-modulus g) → Moves g.hashes c.loop-modulus.slots c.loop-modulus.gap c.next_slot-next.result
-    (it g c) c.empty.result c.set-in-loop-modulus.new.self
+    (it g c) c.set-in-loop-modulus.new.self
 moves g c =
     let place = goal.at.loop-modulus-smaller g c in
     let slots : List Slot = c.loop-modulus.slots in
@@ -99,8 +99,8 @@ moves g c =
     let reached : next ≡ after (length (positions slots)) gap =
     there g place.After-is_empty ∙ ap (λ n. after n gap) (sym (positions-length slots)) in
     let read : Some k ≡ position_in behind = (stands g place.After-is_empty c.if-is_empty.false).1 in
-    let now_is : c.set-in-loop-modulus.new.self ≡ set (set slots gap behind) next c.empty.result =
-    c.set-in-loop-modulus.ensures ∙ ap (λ ps. set ps next c.empty.result) (c.set.ensures ∙ ap (set slots gap) c.at-behind.ensures.value) in
+    let now_is : c.set-in-loop-modulus.new.self ≡ set (set slots gap behind) next blank =
+    c.set-in-loop-modulus.ensures ∙ ap (λ ps. set ps next blank) (c.set.ensures ∙ ap (set slots gap) c.at-behind.ensures.value) in
     record {
       there = reached;
       within = within g place.After-is_empty;
@@ -113,10 +113,9 @@ moves g c =
         ap (displacement g.hashes (positions slots)) reached,
       );
       now_is = now_is;
-      moved = ap positions now_is ∙ (positions-set (set slots gap behind) next c.empty.result
-          ∙ (ap (set (positions (set slots gap behind)) next) (ap position_in c.empty.ensures)
+      moved = ap positions now_is ∙ (positions-set (set slots gap behind) next blank
           ∙ (ap (λ ps. set ps next None) (positions-put slots gap behind k (sym read))
-          ∙ ap (λ p. set (set (positions slots) gap (Some k)) p None) reached)));
+          ∙ ap (λ p. set (set (positions slots) gap (Some k)) p None) reached));
     }
 
 pub loop-modulus-smaller : goal.loop-modulus-smaller
@@ -142,10 +141,9 @@ loop-modulus-preserved g c =
           (moved_back g.hashes slots gap k was.gap.within was.gap.empty to.stood to.far was.gap));
       placed = λ i. ap (times i) to.moved
           ∙ (times-moved_back g.hashes slots gap k was.gap.within was.gap.empty to.stood to.far i ∙ was.placed i);
-      hashes = subst (HaveHashes g.hashes) (sym to.now_is) (hashes-set g.hashes (set c.loop-modulus.slots gap behind) next c.empty.result
-          (nothing_has_hash g.hashes c.empty.result (ap position_in c.empty.ensures))
-          (hashes-set g.hashes c.loop-modulus.slots gap behind
+      hashes = subst (HaveHashes g.hashes) (sym to.now_is) (hashes-set g.hashes (set c.loop-modulus.slots gap behind) next blank
+          (nothing_has_hash g.hashes blank refl) (hashes-set g.hashes c.loop-modulus.slots gap behind
           (hashes-at g.hashes c.loop-modulus.slots next was.hashes to.within) was.hashes));
-      size = ap length to.now_is ∙ (length-set (set c.loop-modulus.slots gap behind) next c.empty.result
+      size = ap length to.now_is ∙ (length-set (set c.loop-modulus.slots gap behind) next blank
           ∙ (length-set c.loop-modulus.slots gap behind ∙ was.size));
     }

@@ -1,8 +1,8 @@
-use Rattle.std.proofs.Common.{◌≡◌, ◌<◌, ℕ, List, length, set, Option, None, arith, ap, sym, ◌∙◌, subst}
+use Rattle.std.proofs.Common.{◌≡◌, ◌<◌, ℕ, List, length, set, Option, None, arith, ap, refl, sym, ◌∙◌, subst}
 use Rattle.ijson_table.specs.Slots.{times}
 use Rattle.ijson_table.specs.private.Holds.{one_if, HasGap}
 use Rattle.ijson_table.specs.private.Insertion.{IsTableOf}
-use Rattle.ijson_table.specs.private.SlotHashes.{position_in, positions, HaveHashes}
+use Rattle.ijson_table.specs.private.SlotHashes.{blank, positions, HaveHashes}
 use Rattle.ijson_table.proofs.probing.ProbePath.{placed_at}
 use Rattle.ijson_table.proofs.shifting.BackwardShift.{gap_from}
 use Rattle.ijson_table.proofs.slots.Residents.{times-set}
@@ -29,10 +29,8 @@ shift_back-requires g c =
     let slot : ℕ = c.slot_of-slot.result in
     let lp : slot < length slots = omega (arith, c.slot_of-slot.ensures.within, positions-length c.args.slots.now) in
     subst (λ ps. HasGap g.hashes (positions ps) slot × HaveHashes g.hashes ps) (sym c.set.ensures) (
-      subst (λ ps. HasGap g.hashes ps slot) (sym (positions-set c.args.slots.now slot c.empty.result
-          ∙ ap (set slots slot) (ap position_in c.empty.ensures))) (gap_from g.hashes slots slot lp table.table.ordered),
-      hashes-set g.hashes c.args.slots.now slot c.empty.result
-          (nothing_has_hash g.hashes c.empty.result (ap position_in c.empty.ensures)) table.hashes_are,
+      subst (λ ps. HasGap g.hashes ps slot) (sym (positions-set c.args.slots.now slot blank)) (gap_from g.hashes slots slot lp table.table.ordered),
+      hashes-set g.hashes c.args.slots.now slot blank (nothing_has_hash g.hashes blank refl) table.hashes_are,
     )
 
 -- the index is removed, and each other one is in its old slot or the one before
@@ -46,7 +44,7 @@ returns-clause-holds g c =
       placed = λ i.
           let out : times i (positions c.set.new.self) ≡ times i (set slots slot None) =
           ap (λ ps. times i (positions ps)) c.set.ensures
-          ∙ ap (times i) (positions-set c.args.slots.now slot c.empty.result ∙ ap (set slots slot) (ap position_in c.empty.ensures)) in
+          ∙ ap (times i) (positions-set c.args.slots.now slot blank) in
           omega (
             arith,
             c.shift_back.ensures.placed i,
