@@ -2,7 +2,7 @@
 //!
 //! Residents are ordered by probe distance. Of the keys, the index knows only the hashes.
 //!
-//! - `slots`: the representation of the slots, by their number, and the functions that test which it is.
+//! - `slots`: the representation of the slots, by their number.
 //! - `places`: the trait of a table whose slots can be inspected, and `locate`, the lookup that counts inspections.
 //! - `probe`: the one walk over the slots, with which each lookup and each shift begins.
 //! - `forward`: the forward shift, in each representation.
