@@ -61,22 +61,14 @@ impl Slot {
         self.code == 0
     }
 
-    /// Returns the resident. Call it only if the slot is not empty.
-    pub fn resident(self) -> usize
-        requires { position_in self ≢ None }
-        ensures { position_in self ≡ Some result }
-    {
-        self.code - 1
-    }
-
     /// Returns the resident, if any.
     pub fn position(self) -> Option<usize>
         ensures { result ≡ position_in self }
     {
-        if self.is_empty() {
+        if self.code == 0 {
             None
         } else {
-            Some(self.resident())
+            Some(self.code - 1)
         }
     }
 
@@ -99,13 +91,13 @@ impl Slot {
         requires { slot < modulus.count }
         ensures { SeenAs self modulus.count slot same result }
     {
-        if self.is_empty() {
-            return Seen::Empty;
-        }
-        Seen::Resident {
-            at: self.resident(),
-            distance: distance_between(modulus.count, modulus.home_of_hash(self.hash), slot),
-            same,
+        match self.position() {
+            None => Seen::Empty,
+            Some(at) => Seen::Resident {
+                at,
+                distance: distance_between(modulus.count, modulus.home_of_hash(self.hash), slot),
+                same,
+            },
         }
     }
 }

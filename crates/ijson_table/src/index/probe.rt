@@ -134,11 +134,13 @@ impl<'a, 'i, V, S: StoredSlot + Copy> ProbeTarget for Lookup<'a, 'i, V, S> {
     fn look(&self, slot: usize, looks: &mut Looks) -> Seen {
         looks.add_one();
         let there = self.slots[slot].widened();
-        if there.is_empty() {
-            return Seen::Empty;
+        match there.position() {
+            None => Seen::Empty,
+            Some(at) => {
+                let same = there.hash == self.hash && has_key(self.pairs, at, self.key);
+                there.seen(self.modulus, slot, same)
+            }
         }
-        let same = there.hash == self.hash && has_key(self.pairs, there.resident(), self.key);
-        there.seen(self.modulus, slot, same)
     }
 }
 

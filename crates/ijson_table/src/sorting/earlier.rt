@@ -39,7 +39,7 @@ pub fn earlier_positions<V>(
         if !has_same_key(pairs, last, *entry) {
             last = *entry;
         }
-        earlier[entry.resident()] = last.resident();
+        earlier[entry.position().unwrap()] = last.position().unwrap();
         last = *entry;
     }
     Ok(earlier)

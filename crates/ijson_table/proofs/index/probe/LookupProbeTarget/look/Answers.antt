@@ -27,23 +27,23 @@ pub has_key-same-requires : goal.has_key-same-requires
 has_key-same-requires g c =
     let place = (goal.at.has_key-same-requires g c).After-widened-there in
     let slots = slots_seen g place in
-    let there : resident (positions slots) c.args.slot ≡ Some c.resident.result = sym (read g place).position ∙ c.resident.ensures in
+    let there : resident (positions slots) c.args.slot ≡ Some c.in-Some.at = sym (read g place).position ∙ (sym c.position.ensures ∙ c.in-Some.is) in
     omega (
       arith,
-      in_list (hashes_of slots) (positions slots) c.args.self.now.table.table.table c.args.slot c.resident.result c.requires.within there,
+      in_list (hashes_of slots) (positions slots) c.args.self.now.table.table.table c.args.slot c.in-Some.at c.requires.within there,
       c.args.self.now.listed,
     )
 
-pub returns-then-is_empty-clause-sees : goal.returns-then-is_empty-clause-sees
-returns-then-is_empty-clause-sees g c =
-    let place = (goal.at.returns-then-is_empty-clause-sees g c).After-widened-there in
+pub returns-in-None-clause-sees : goal.returns-in-None-clause-sees
+returns-in-None-clause-sees g c =
+    let place = (goal.at.returns-in-None-clause-sees g c).After-widened-there in
     let slots = slots_seen g place in
-    let none : resident (positions slots) c.args.slot ≡ None = sym (read g place).position ∙ c.is_empty.ensures.0 c.if-is_empty.true in
+    let none : resident (positions slots) c.args.slot ≡ None = sym (read g place).position ∙ (sym c.position.ensures ∙ c.in-None.is) in
     (none, displacement-none (hashes_of slots) (positions slots) c.args.slot none)
 
-pub returns-clause-sees : goal.returns-clause-sees
-returns-clause-sees g c =
-    let place = (goal.at.returns-clause-sees g c).After-widened-there in
+pub returns-after-there-self-clause-sees : goal.returns-after-there-self-clause-sees
+returns-after-there-self-clause-sees g c =
+    let place = (goal.at.returns-after-there-self-clause-sees g c).After-widened-there in
     let self = c.args.self.now in
     let slots = slots_seen g place in
     let hashes = hashes_of slots in
@@ -56,8 +56,8 @@ returns-clause-sees g c =
     let hashed : there.hash ≡ get_or hashes i 0 = was.hash i e in
     elim c.if-there-self.branch [
       | then-there-self w ↦
-          let who : ◌≡◌ {A = Option ℕ} (Some w.resident.result) (Some i) = sym w.resident.ensures ∙ e in
-          let at : w.resident.result ≡ i = cc in
+          let who : ◌≡◌ {A = Option ℕ} (Some c.in-Some.at) (Some i) = sym (sym c.position.ensures ∙ c.in-Some.is) ∙ e in
+          let at : c.in-Some.at ≡ i = cc in
           w.same-is ∙ (same_test w.has_key-same.result (get_or keys i []) self.key.now
           (subst (λ n. IsTrue w.has_key-same.result ↔ (get_or keys n [] ≡ self.key.now)) at w.has_key-same.ensures)
           ∙ same_hash (get_or hashes i 0) self.hash (bytes_eq (get_or keys i []) self.key.now)
