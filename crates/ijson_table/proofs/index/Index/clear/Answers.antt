@@ -1,7 +1,6 @@
-use Rattle.std.proofs.Common.{◌≡◌, ◌∙◌, [], length, map, take, arith, rules, ap, refl, subst, sym}
+use Rattle.std.proofs.Common.{◌∙◌, [], length, map, take, arith, ap, refl, subst, sym}
 use Rattle.std.proofs.lemmas.List.{length-map}
 use Rattle.ijson_table.specs.declared.index.Index.TheInside.{Inside}
-use Rattle.ijson_table.specs.declared.index.slots.TheConstants.{FEW_SLOTS}
 use Rattle.ijson_table.specs.private.Narrow.{widened}
 use Rattle.ijson_table.specs.private.NarrowSlots.{stored_slots, IsStoredByCount}
 use Rattle.ijson_table.proofs.slots.IndexInvariant.{empty_index, IsIndexOf}

@@ -1,4 +1,4 @@
-use Rattle.std.proofs.Common.{◌≡◌, ◌%◌, ◌+◌, ◌<◌, ◌≤◌, ℕ, List, length, get_or, arith, ap, sym, ◌∙◌, subst}
+use Rattle.std.proofs.Common.{◌≡◌, ◌+◌, ◌<◌, ◌≤◌, ℕ, List, length, get_or, arith, ap, sym, ◌∙◌, subst}
 use Rattle.std.specs.List.{All}
 use Rattle.ijson_table.specs.declared.slot.Slot.{Slot}
 use Rattle.ijson_table.specs.private.HashIndex.{HashIndex}

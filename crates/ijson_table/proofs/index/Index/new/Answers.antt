@@ -1,5 +1,4 @@
-use Rattle.std.proofs.Common.{[], arith, refl, replicate}
-use Rattle.ijson_table.specs.declared.index.slots.TheConstants.{FEW_SLOTS}
+use Rattle.std.proofs.Common.{[], arith}
 use Rattle.ijson_table.proofs.slots.IndexInvariant.{empty_index}
 use Rattle.ijson_table.proofs.index.Index.new.Goals as goal
 

@@ -1,9 +1,9 @@
-use Rattle.std.proofs.Common.{◌≡◌, ◌≤◌, [], ◌++◌, length, take, drop, arith, ap, sym, subst, ◌∙◌}
+use Rattle.std.proofs.Common.{◌≡◌, ◌≤◌, [], ◌++◌, length, take, drop, arith, ap, subst, ◌∙◌}
 use Rattle.std.proofs.Common.{append-nil}
 use Rattle.std.proofs.lemmas.List.{drop_all, with_items_is}
 use Rattle.ijson_table.specs.Growth.{capacity_limit}
-use Rattle.ijson_table.specs.Store.{keys_of, put_each, IsDistinct}
-use Rattle.ijson_table.proofs.pairs.PutEach.{put_each-behind, put_each-new}
+use Rattle.ijson_table.specs.Store.{put_each}
+use Rattle.ijson_table.proofs.pairs.PutEach.{put_each-behind}
 use Rattle.ijson_table.proofs.table.Table.from_pairs_counted.Given.{Over}
 use Rattle.ijson_table.proofs.table.Table.from_pairs_counted.Goals.{In_ok-capacity, After-remove_range, Else-read-capacity}
 use Rattle.ijson_table.proofs.table.Table.from_pairs_counted.Goals as goal
@@ -46,19 +46,6 @@ all_read g c exactly is =
       c.if-read-capacity.false,
     ))) ∙ append-nil kept)
 
-pub invariant_of-result : goal.invariant_of-result
-invariant_of-result g c =
-    let w = goal.at.invariant_of-result g c in
-    let whole = all_read g w.Else-read-capacity (within g w.In_ok-capacity).0 (remaining g w.After-remove_range) in
-    (subst (λ ps. IsDistinct (keys_of ps)) (sym whole) c.put_in_place-kept.ensures.placed.distinct, tt)
-
 pub returns-then-read-capacity-clause-pairs : goal.returns-then-read-capacity-clause-pairs
 returns-then-read-capacity-clause-pairs g c = c.in_ok-from_pairs_sorted.ensures.pairs
     ∙ all_put g (goal.at.returns-then-read-capacity-clause-pairs g c).After-remove_range
-
-pub returns-clause-pairs : goal.returns-clause-pairs
-returns-clause-pairs g c =
-    let w = goal.at.returns-clause-pairs g c in
-    let whole = all_read g w.Else-read-capacity (within g w.In_ok-capacity).0 (remaining g w.After-remove_range) in
-    sym (put_each-new [] c.remove_range.new.list.items
-    (subst (λ ps. IsDistinct (keys_of ps)) (sym whole) c.put_in_place-kept.ensures.placed.distinct)) ∙ all_put g w.After-remove_range
