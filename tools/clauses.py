@@ -46,9 +46,9 @@ def blocks_of(lines):
     """(header, first line, line) of each function of a file; the header is that of its `impl` or `trait`, or empty."""
     header, first = "", 0
     for at, line in enumerate(lines):
-        if line and not line[0].isspace() and not line.startswith(("}", "/", "#", ")", "ghost use")):
-            block = surface.BLOCK.match(surface.without_generics(line))
-            header, first = f"{block.group(1)} {block.group(2)}" if block else "", at
+        if surface.is_outermost(line):
+            block = surface.block_at(line)
+            header, first = f"{block[0]} {block[1]}" if block else "", at
         if surface.FUNCTION.match(line):
             yield header, first, at
 

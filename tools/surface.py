@@ -4,6 +4,7 @@ import collections
 import difflib
 import pathlib
 import re
+import sys
 
 TOP = pathlib.Path(__file__).resolve().parent.parent
 
@@ -20,8 +21,19 @@ ENDS = re.compile(r"^ +(?:requires|ensures|decreases|ghost)\b|^\s*(?:where\b|\}|
 # Traits without a promise of their own: models and markers.
 SKIPPED = ("Model for ", "Eq for ", "FusedIterator for ")
 
-# One call, or one ghost member of an implementation. The group is the implementation of a trait that it belongs to, if any.
-Call = collections.namedtuple("Call", "crate path owner name signature sentence clauses group")
+class Call(collections.namedtuple("Call", "crate path owner name signature sentence clauses group")):
+    """One call, or one ghost member of an implementation. The group is the implementation of a trait that it belongs to, if any."""
+
+    @property
+    def path_name(self):
+        """`Type::name`, or the name of a function."""
+        return f"{self.owner}::{self.name}" if self.owner else self.name
+
+    @property
+    def is_of_trait(self):
+        """Whether it belongs to the implementation of a trait."""
+        return " for " in (self.group or "")
+
 
 # A struct, an enum, a trait or an alias of a type.
 Type = collections.namedtuple("Type", "crate path kind name sentence")
@@ -31,6 +43,13 @@ Constant = collections.namedtuple("Constant", "crate path owner name kind senten
 
 # A trait that is implemented by hand for a public type.
 Implementation = collections.namedtuple("Implementation", "crate path trait owner")
+
+
+def report(held, amiss):
+    """Prints what is amiss on standard error, and two counts on standard output."""
+    for line in amiss:
+        print(line, file=sys.stderr)
+    print(held, len(amiss))
 
 
 def differences(found, wanted):
