@@ -21,6 +21,7 @@ ENDS = re.compile(r"^ +(?:requires|ensures|decreases|ghost)\b|^\s*(?:where\b|\}|
 # Traits without a promise of their own: models and markers.
 SKIPPED = ("Model for ", "Eq for ", "FusedIterator for ")
 
+
 class Call(collections.namedtuple("Call", "crate path owner name signature sentence clauses group")):
     """One call, or one ghost member of an implementation. The group is the implementation of a trait that it belongs to, if any."""
 
