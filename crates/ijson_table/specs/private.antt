@@ -3,7 +3,6 @@ pub mod Closing
 pub mod CountedSteps
 pub mod Entries
 pub mod FirstPlaced
-pub mod HashIndex
 pub mod HomeOrder
 pub mod Holds
 pub mod Insertion

@@ -1,11 +1,11 @@
 //! `Slot`: one slot of a table; `Seen`: the result of an inspection; `Modulus`: the number of slots that hashes are
 //! reduced by.
 
-ghost use Rattle.std.specs.Prelude.{◌≡◌, ◌≢◌, ◌+◌, ◌-◌, ◌<◌, ◌/◌, ◌%◌, ◌^◌, Some, None, IsTrue, ◌↔◌};
+ghost use Rattle.std.specs.Prelude.{◌≡◌, ◌+◌, ◌-◌, ◌<◌, ◌/◌, ◌%◌, ◌^◌, Some, None, IsTrue, ◌↔◌};
 ghost use Rattle.ijson_table.specs.Crowd.{distance};
 ghost use Rattle.ijson_table.specs.private.Closing.{closed};
 ghost use Rattle.ijson_table.specs.private.KeptHash.{kept};
-ghost use Rattle.ijson_table.specs.private.SlotHashes.{blank, position_in, SeenAs};
+ghost use Rattle.ijson_table.specs.private.SlotHashes.{position_in, SeenAs};
 
 pub mod narrow;
 pub mod stored;

@@ -11,7 +11,6 @@ ghost use Rattle.ijson_table.specs.Store.{at, keys_of, IsDistinct, lookup, with_
 ghost use Rattle.ijson_table.specs.PlacedWithValue.{placed_with_value};
 ghost use Rattle.ijson_table.specs.laws.Store.{IsDistinct-prop};
 ghost use Rattle.ijson_table.specs.private.Holds.{HasEmpty, MayStand};
-ghost use Rattle.ijson_table.specs.private.KeptHash.{kept_hash};
 ghost use Rattle.ijson_table.specs.private.IsPlaced.{IsPlaced};
 ghost use Rattle.ijson_table.specs.private.Lookup.{LookUpEnds};
 ghost use Rattle.ijson_table.specs.private.Room.{HasRoom, IsResized};
@@ -20,11 +19,11 @@ mod from_list;
 
 use crate::growth::{grown_capacity, limited, slots_for};
 use crate::hash::KeyHash;
-use crate::index::Index;
 use crate::index::add::{STEPS_A_PAIR, add_new_keys};
 use crate::index::fill::fill_sorted;
 use crate::index::places::{Places, locate};
 use crate::index::probe::{Probed, has_key};
+use crate::index::slots::Slots;
 use crate::slot::{Modulus, Seen};
 use crate::store::{PairStore, RefusedPair, ReserveError};
 use crate::vec::{set_room, tighten};
@@ -46,7 +45,7 @@ use std::{fmt, mem};
 #[derive(Drop)]
 pub struct Table<V, H: KeyHash> {
     pairs: Vec<(IString, V)>,
-    index: Index,
+    slots: Slots,
     alloc: Global,
     hash: PhantomData<H>,
     ghost distinct: { IsDistinct (keys_of pairs.items) } by { IsDistinct-prop (keys_of pairs.items) },
@@ -57,6 +56,7 @@ impl<V, H: KeyHash> Model for Table<V, H> {
     ghost use Rattle.ijson_table.specs.Placed.{Placed};
     ghost use Rattle.ijson_table.specs.laws.Placed.{placed_code};
     ghost use Rattle.ijson_table.specs.private.IsPlaced.{IsPlaced};
+    ghost use Rattle.ijson_table.specs.private.SlotHashes.{positions};
 
     ghost Value = { Placed V };
 
@@ -64,10 +64,10 @@ impl<V, H: KeyHash> Model for Table<V, H> {
 
     ghost view = { λ t. record {
       store = record { pairs = t.pairs.items; capacity = vec_capacity t.pairs; distinct = t.distinct };
-      slots = t.index.slots;
+      slots = positions t.slots;
     } };
 
-    ghost invariant = { λ t. IsPlaced H.hash_of t.pairs.items (vec_capacity t.pairs) t.index };
+    ghost invariant = { λ t. IsPlaced H.hash_of t.pairs.items (vec_capacity t.pairs) t.slots };
 }
 
 impl<V: Drop, H: KeyHash> Table<V, H> {
@@ -85,10 +85,10 @@ impl<V: Drop, H: KeyHash> Table<V, H> {
     {
         let capacity = limited(capacity)?;
         let pairs = Vec::with_capacity(alloc, capacity)?;
-        let index = Index::with_slots(alloc, slots_for(capacity))?;
+        let slots = Slots::with_count(alloc, slots_for(capacity))?;
         Ok(Table {
             pairs,
-            index,
+            slots,
             alloc,
             hash: PhantomData,
         })
@@ -117,11 +117,11 @@ impl<V: Drop, H: KeyHash> Table<V, H> {
         ensures refused { OnErr result (0 < length pairs.items) }
     {
         let capacity = self.pairs.len();
-        let index = self.index_with_capacity(alloc, capacity, &mut Looks::new())?;
+        let slots = self.slots_with_capacity(alloc, capacity, &mut Looks::new())?;
         tighten(alloc, &mut pairs)?;
         Ok(Table {
             pairs,
-            index,
+            slots,
             alloc,
             hash: PhantomData,
         })
@@ -192,12 +192,12 @@ impl<V: Drop, H: KeyHash> Table<V, H> {
         ensures { IsResized self.old.store.pairs self.old.store.capacity capacity result
             self.new.store.pairs self.new.store.capacity }
     {
-        let index = self.index_with_capacity(self.alloc, capacity, &mut Looks::new())?;
+        let slots = self.slots_with_capacity(self.alloc, capacity, &mut Looks::new())?;
         if let Err(refused) = set_room(self.alloc, &mut self.pairs, capacity) {
-            drop(index);
+            drop(slots);
             return Err(refused);
         }
-        drop(mem::replace(&mut self.index, index));
+        drop(mem::replace(&mut self.slots, slots));
         Ok(())
     }
 
@@ -228,8 +228,8 @@ impl<V: Drop, H: KeyHash> Table<V, H> {
         ensures capacity { self.new.store.capacity ≡ self.old.store.capacity }
     {
         let was = self.hash_at(index);
-        let hash = Modulus::new(self.index.len()).kept_hash(H::hash(key.as_str()));
-        self.index.rehash_one(index, was, hash);
+        let hash = H::hash(key.as_str());
+        self.slots.rehash_one(index, was, hash);
         mem::replace(&mut self.pairs[index].0, key)
     }
 
@@ -246,9 +246,9 @@ impl<V: Drop, H: KeyHash> Table<V, H> {
     {
         let position = self.pairs.len();
         // Before the entry is written, so that the compiler shares the division with `find`.
-        let kept = Modulus::new(self.index.len()).kept_hash(hash);
+        let kept = Modulus::new(self.slots.len()).kept_hash(hash);
         self.pairs.push_reserved((key, value));
-        self.index.push_at(slot, position, kept);
+        self.slots.shift_forward(slot, position, kept);
     }
 }
 
@@ -327,29 +327,29 @@ impl<V, H: KeyHash> Table<V, H> {
         ensures bounded { IsBounded H.hash_of (keys_of self.now.store.pairs) self.now.slots
             self.now.store.capacity key.now (looks.new - looks.old) }
     {
-        let slots = self.index.len();
-        if slots == 0 {
+        let count = self.slots.len();
+        if count == 0 {
             return Probed::Full;
         }
-        let modulus = Modulus::new(slots);
+        let modulus = Modulus::new(count);
         let kept = modulus.kept_hash(hash);
         let home = modulus.home_of_hash(hash);
-        self.index
-            .probe_for(&self.pairs, modulus, kept, home, key, looks)
+        self.slots
+            .probe_for::<V, H>(&self.pairs, modulus, kept, home, key, looks)
     }
 
-    /// Creates a hash index of the entries, with the slots of a table of this capacity.
+    /// Creates the slots of a table of these entries with this capacity.
     ///
     /// If the number of slots is unchanged, they are copied. Otherwise, the indices are inserted in order, up to a bound
     /// on the steps, past which the slots are filled by sorting.
     ///
     /// It counts each slot inspected or written in insertions, and each comparison of two entries in sorting.
-    fn index_with_capacity(
+    fn slots_with_capacity(
         &self,
         alloc: Global,
         capacity: usize,
         looks: &mut Looks,
-    ) -> Result<Index, AllocError>
+    ) -> Result<Slots, AllocError>
         requires room { HasRoom (length self.now.store.pairs) capacity }
         requires fits { looks.old + 2 ^ 72 < 2 ^ 128 }
         ensures placed { IfOk result (IsPlaced H.hash_of self.now.store.pairs capacity) }
@@ -357,36 +357,35 @@ impl<V, H: KeyHash> Table<V, H> {
         ensures bounded { IsBuildBounded capacity (looks.new - looks.old) }
     {
         let count = slots_for(capacity);
-        if count == self.index.len() {
-            return self.index.copied(alloc);
+        if count == self.slots.len() {
+            return self.slots.copied(alloc);
         }
-        let mut index = Index::with_slots(alloc, count)?;
+        let mut slots = Slots::with_count(alloc, count)?;
         let mut steps = 0;
         let placed = add_new_keys::<V, H>(
             &self.pairs,
-            &mut index,
+            &mut slots,
             STEPS_A_PAIR * capacity,
             &mut steps,
         );
         looks.add(steps as u128);
         if placed == self.pairs.len() {
-            return Ok(index);
+            return Ok(slots);
         }
-        index.clear();
-        if let Err(refused) = fill_sorted::<V, H>(alloc, &self.pairs, &mut index, looks) {
-            drop(index);
+        slots.clear();
+        if let Err(refused) = fill_sorted::<V, H>(alloc, &self.pairs, &mut slots, looks) {
+            drop(slots);
             return Err(refused);
         }
-        Ok(index)
+        Ok(slots)
     }
 
-    /// Returns the part of the hash of the key at `index` that the slots keep.
+    /// Returns the hash of the key at an index.
     fn hash_at(&self, index: usize) -> u64
         requires { index < length self.now.store.pairs }
-        ensures { result ≡ get_or (map (kept_hash (length self.now.slots) H.hash_of) (keys_of self.now.store.pairs)) index 0 }
+        ensures { result ≡ get_or (map H.hash_of (keys_of self.now.store.pairs)) index 0 }
     {
-        let hash = H::hash(self.pairs[index].0.as_str());
-        Modulus::new(self.index.len()).kept_hash(hash)
+        H::hash(self.pairs[index].0.as_str())
     }
 }
 
@@ -412,17 +411,17 @@ impl<V, H: KeyHash> Places for Table<V, H> {
     ghost distinct = { λ t. t.store.distinct };
 
     fn places(&self) -> usize {
-        self.index.len()
+        self.slots.len()
     }
 
     fn home(&self, key: &str) -> usize {
-        Modulus::new(self.index.len()).home_of_hash(H::hash(key))
+        Modulus::new(self.slots.len()).home_of_hash(H::hash(key))
     }
 
     fn look(&self, slot: usize, key: &str, looks: &mut Looks) -> Seen {
         looks.add_one();
-        let modulus = Modulus::new(self.index.len());
-        let there = self.index.at(slot);
+        let modulus = Modulus::new(self.slots.len());
+        let there = self.slots.at(slot);
         let same = match there.position() {
             None => false,
             Some(at) => has_key(&self.pairs, at, key),
@@ -446,7 +445,7 @@ impl<V: Drop, H: KeyHash> PairStore<V> for Table<V, H> {
     fn new(alloc: Global) -> Self {
         Table {
             pairs: Vec::new(alloc),
-            index: Index::new(),
+            slots: Slots::new(),
             alloc,
             hash: PhantomData,
         }
@@ -500,14 +499,14 @@ impl<V: Drop, H: KeyHash> PairStore<V> for Table<V, H> {
         }
         let hash = self.hash_at(index);
         let last_hash = self.hash_at(last);
-        self.index.swap_remove(index, hash, last, last_hash);
+        self.slots.swap_remove(index, hash, last, last_hash);
         self.pairs.swap_remove(index)
     }
 
     fn shift_out(&mut self, index: usize) -> (IString, V) {
         let last = self.pairs.len() - 1;
         let hash = self.hash_at(index);
-        self.index.shift_remove(index, hash, last);
+        self.slots.shift_remove(index, hash, last);
         self.pairs.remove(index)
     }
 
@@ -522,7 +521,7 @@ impl<V: Drop, H: KeyHash> PairStore<V> for Table<V, H> {
 
     fn clear(&mut self) {
         self.pairs.clear();
-        self.index.clear();
+        self.slots.clear();
     }
 
     ghost set_value_is = { λ t i v. (refl, refl) };

@@ -15,13 +15,6 @@ home_in n entry = entry.hash % n
 abbrev pub home_before : ℕ → Entry → Entry → Bool
 home_before n a b = leb (home_in n a) (home_in n b)
 
--- Entries of all keys with these hashes, each once, in the order of their home slots among n slots.
-pub record AreInHomeOrder (hashes : List ℕ) (n : ℕ) (entries : List Entry) : Type 0 where
-  pub count : length entries ≡ length hashes
-  pub placed : (i : ℕ) → times i (positions entries) ≡ below (length hashes) i
-  pub hashes_are : HaveHashes hashes entries
-  pub sorted : IsSortedBy (home_before n) entries
-
 -- the entries from a start on, and after them the earlier ones
 abbrev pub rotated : ℕ → List Entry → List Entry
 rotated start entries = drop start entries ++ take start entries
@@ -42,5 +35,5 @@ pub record CanBePlaced (hashes : List ℕ) (n start first : ℕ) (entries : List
   pub starts : start < length entries
   pub within : first < n
   pub some : All (λ entry. position_in entry ≢ None) entries
-  pub hashes_are : HaveHashes hashes entries
+  pub hashes_are : HaveHashes n hashes entries
   pub room : HaveRoom n first (rotated start entries)

@@ -5,18 +5,19 @@ use Rattle.ijson_table.specs.Crowd.{distance}
 use Rattle.ijson_table.specs.Slots.{resident, IsOrdered, IsTable}
 use Rattle.ijson_table.specs.private.Changes.{changes}
 use Rattle.ijson_table.specs.private.Holds.{with_one, Holds, HasEmpty, MayStand}
+use Rattle.ijson_table.specs.private.KeptHash.{kept}
 use Rattle.ijson_table.specs.private.Probe.{AreFull}
 use Rattle.ijson_table.specs.private.SlotHashes.{positions, HaveHashes}
 
--- This index may be inserted into the slots, one of which is empty. Its key has this hash.
+-- This index may be inserted into the slots, one of which is empty. This is the part of the hash of its key that they keep.
 pub record Accepts (hashes : List ℕ) (slots : List Slot) (position hash : ℕ) : Type 0 where
   pub fits : position + 1 < 2 ^ 64
-  pub hash_is : hash ≡ get_or hashes position 0
-  pub hashes_are : HaveHashes hashes slots
+  pub hash_is : hash ≡ kept (length slots) (get_or hashes position 0)
+  pub hashes_are : HaveHashes (length slots) hashes slots
   pub ordered : IsOrdered hashes (positions slots)
   pub empty : HasEmpty (positions slots)
 
--- This index may be put into one of the slots. Its key has this hash.
+-- This index may be put into one of the slots.
 abbrev pub MayPut : List ℕ → List Slot → ℕ → ℕ → ℕ → Type 0
 MayPut hashes slots position hash from = Accepts hashes slots position hash × MayStand hashes (positions slots) position from
 
@@ -24,7 +25,7 @@ MayPut hashes slots position hash from = Accepts hashes slots position hash × M
 -- on.
 pub record IsPut (hashes : List ℕ) (old : List Slot) (position from last : ℕ) (new : List Slot) : Type 0 where
   pub holds : Holds hashes (with_one (positions old) position) None (positions new)
-  pub hashes_are : HaveHashes hashes new
+  pub hashes_are : HaveHashes (length old) hashes new
   pub count : length new ≡ length old
   pub within : last < length old
   pub empty : resident (positions old) last ≡ None
@@ -34,14 +35,14 @@ pub record IsPut (hashes : List ℕ) (old : List Slot) (position from last : ℕ
 -- This index is in one of the slots. Its key has this hash.
 pub record Stands (hashes : List ℕ) (slots : List Slot) (position hash : ℕ) : Type 0 where
   pub hash_is : hash ≡ get_or hashes position 0
-  pub hashes_are : HaveHashes hashes slots
+  pub hashes_are : HaveHashes (length slots) hashes slots
   pub ordered : IsOrdered hashes (positions slots)
   pub stands : (p : ℕ) × (p < length slots) × (resident (positions slots) p ≡ Some position)
 
--- The slots are a table of the hashes in them.
+-- The slots are a table of keys with these hashes, and each has the kept part of its key's hash.
 pub record IsTableOf (hashes : List ℕ) (slots : List Slot) : Type 0 where
   pub table : IsTable hashes (positions slots)
-  pub hashes_are : HaveHashes hashes slots
+  pub hashes_are : HaveHashes (length slots) hashes slots
 
 -- These are the hashes of an index's key and of the last one's, which is another index.
 pub record EndsWith (hashes : List ℕ) (position hash last last_hash : ℕ) : Type 0 where

@@ -1,5 +1,5 @@
 -- The part of a hash that a hash index keeps: with few slots, the home slot and eight more bits.
-use Rattle.std.specs.Prelude.{ℕ, ◌*◌, ◌%◌, leb, List, if◌then◌else◌}
+use Rattle.std.specs.Prelude.{ℕ, ◌*◌, ◌%◌, leb, if◌then◌else◌}
 
 -- the largest number of few slots
 abbrev pub narrow_slots : ℕ
@@ -8,7 +8,3 @@ narrow_slots = 158
 -- the part of a hash that is kept among n slots
 unfoldable pub kept : ℕ → ℕ → ℕ
 kept n hash = (if leb n narrow_slots then hash % (n * 256) else hash)
-
--- that part, as a hash of keys
-abbrev pub kept_hash : ℕ → (List ℕ → ℕ) → List ℕ → ℕ
-kept_hash n hash key = kept n (hash key)

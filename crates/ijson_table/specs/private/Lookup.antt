@@ -1,5 +1,5 @@
 -- How the lookup of a key ends.
-use Rattle.std.specs.Prelude.{◌≡◌, ℕ, ◌<◌, Bool, ◌&&◌, eqb, List, [], ◌∷◌, ◌++◌, length, get_or, Option, Some, None}
+use Rattle.std.specs.Prelude.{◌≡◌, ℕ, ◌<◌, Bool, List, [], ◌∷◌, ◌++◌, length, get_or, Option, Some, None}
 use Rattle.std.specs.Str.{bytes_eq}
 use Rattle.ijson_table.specs.declared.index.probe.Probed.{Probed}
 use Rattle.ijson_table.specs.declared.index.probe.Probed.TheVariants.{Found, Vacant, Full}
@@ -9,10 +9,6 @@ use Rattle.ijson_table.specs.private.Holds.{HasEmpty, MayStand}
 -- whether the key at an index is this one
 abbrev pub is_key : List (List ℕ) → List ℕ → ℕ → Bool
 is_key keys key i = bytes_eq (get_or keys i []) key
-
--- like `is_key`, by the hash first
-abbrev pub is_hashed_key : List ℕ → List (List ℕ) → ℕ → List ℕ → ℕ → Bool
-is_hashed_key hashes keys hash key i = eqb (get_or hashes i 0) hash && bytes_eq (get_or keys i []) key
 
 -- the index that was found, or none
 abbrev pub found_at : Probed → Option ℕ

@@ -1,11 +1,11 @@
 -- The contents of a slot: an index, and the hash of its key.
-use Rattle.std.specs.Prelude.{◌≡◌, ℕ, zero, suc, ◌+◌, ◌%◌, Bool, List, [], ◌∷◌, map, length, get_or, Option, Some, None, if◌then◌else◌}
+use Rattle.std.specs.Prelude.{◌≡◌, ℕ, zero, suc, ◌+◌, ◌%◌, Bool, List, map, length, get_or, Option, Some, None}
 use Rattle.std.specs.List.{All}
 use Rattle.ijson_table.specs.declared.slot.Slot.{Slot}
 use Rattle.ijson_table.specs.declared.slot.Seen.{Seen}
 use Rattle.ijson_table.specs.declared.slot.Seen.TheVariants.{Empty, Resident}
 use Rattle.ijson_table.specs.Crowd.{distance}
-use Rattle.ijson_table.specs.Slots.{holds}
+use Rattle.ijson_table.specs.private.KeptHash.{kept}
 
 -- a slot's code: 0 for nothing, else one more than the index
 abbrev pub coded_position : ℕ → Option ℕ
@@ -19,31 +19,13 @@ position_in slot = coded_position slot.code
 abbrev pub positions : List Slot → List (Option ℕ)
 positions slots = map position_in slots
 
--- the hash is that of the key of the index in the slot
-abbrev pub HasHash : List ℕ → Slot → Type 0
-HasHash hashes slot = (i : ℕ) → position_in slot ≡ Some i → slot.hash ≡ get_or hashes i 0
+-- the hash is the part, kept among n slots, of that of the key of the index in the slot
+abbrev pub HasHash : ℕ → List ℕ → Slot → Type 0
+HasHash n hashes slot = (i : ℕ) → position_in slot ≡ Some i → slot.hash ≡ kept n (get_or hashes i 0)
 
 -- every slot has the hash of its key
-abbrev pub HaveHashes : List ℕ → List Slot → Type 0
-HaveHashes hashes slots = All (HasHash hashes) slots
-
--- the hash of this index, or none
-unfoldable pub hash_beside : ℕ → List Slot → Option ℕ
-hash_beside i [] = None
-hash_beside i (slot ∷ slots) = (if holds i (position_in slot) then Some slot.hash else hash_beside i slots)
-
--- nothing, or this one and the rest
-abbrev pub first_and : Option ℕ → List ℕ → List ℕ
-first_and None rest = []
-first_and (Some hash) rest = hash ∷ rest
-
--- The hashes of the indices from i on, up to the first that is in no slot.
-unfoldable pub hashes_from : ℕ → ℕ → List Slot → List ℕ
-hashes_from zero i slots = []
-hashes_from (suc most) i slots = first_and (hash_beside i slots) (hashes_from most (i + 1) slots)
-
-abbrev pub hashes_of : List Slot → List ℕ
-hashes_of slots = hashes_from (length slots) 0 slots
+abbrev pub HaveHashes : ℕ → List ℕ → List Slot → Type 0
+HaveHashes n hashes slots = All (HasHash n hashes) slots
 
 -- the slot past the end
 abbrev pub blank : Slot

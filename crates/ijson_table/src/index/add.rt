@@ -4,11 +4,12 @@ ghost use Rattle.std.specs.Prelude.{◌≡◌, ◌+◌, ◌-◌, ◌*◌, ◌^�
 ghost use Rattle.ijson_table.specs.Store.{at, keys_of};
 ghost use Rattle.ijson_table.specs.private.CountedSteps.{CountsSteps};
 ghost use Rattle.ijson_table.specs.private.FirstPlaced.{ComesAgain, FirstPlaced};
-ghost use Rattle.ijson_table.specs.private.KeptHash.{kept_hash};
+ghost use Rattle.ijson_table.specs.private.Insertion.{IsTableOf};
+ghost use Rattle.ijson_table.specs.private.SlotHashes.{positions};
 
 use crate::hash::KeyHash;
-use crate::index::Index;
 use crate::index::probe::Probed;
+use crate::index::slots::Slots;
 use crate::slot::{Modulus, distance_between};
 use ijson_number::Looks;
 use ijson_string::IString;
@@ -24,31 +25,31 @@ pub const STEPS_A_PAIR: usize = 32;
 #[inline(always)]
 pub fn add_new_keys<V, H: KeyHash>(
     pairs: &[(IString, V)],
-    index: &mut Index,
+    slots: &mut Slots,
     most: usize,
     steps: &mut usize,
 ) -> usize
-    requires empty { index.old.hashes ≡ [] }
-    requires room { length pairs.now ≤ length index.old.slots }
+    requires empty { IsTableOf [] slots.old }
+    requires room { length pairs.now ≤ length slots.old }
     requires most { most ≤ 2 ^ 62 }
     requires steps { steps.old ≡ 0 }
-    requires few { length index.old.slots ≤ 2 ^ 60 }
+    requires few { length slots.old ≤ 2 ^ 60 }
     ensures within { result ≤ length pairs.now }
-    ensures placed { FirstPlaced (kept_hash (length index.old.slots) H.hash_of) pairs.now result index.new }
+    ensures placed { FirstPlaced H.hash_of pairs.now result slots.new }
     ensures stops { result < length pairs.now → steps.new ≤ most → ComesAgain pairs.now result }
-    ensures count { length index.new.slots ≡ length index.old.slots }
-    ensures steps { steps.new ≤ most + 2 * length index.old.slots }
+    ensures count { length slots.new ≡ length slots.old }
+    ensures steps { steps.new ≤ most + 2 * length slots.old }
     ensures counted { result ≤ steps.new }
 {
     if pairs.is_empty() {
         return 0;
     }
-    let modulus = Modulus::new(index.len());
+    let modulus = Modulus::new(slots.len());
     for position in 0..pairs.len() {
         if *steps > most {
             return position;
         }
-        let None = add_new_key::<V, H>(pairs, index, modulus, position, steps) else {
+        let None = add_new_key::<V, H>(pairs, slots, modulus, position, steps) else {
             return position;
         };
     }
@@ -62,24 +63,24 @@ pub fn add_new_keys<V, H: KeyHash>(
 #[inline(always)]
 pub fn add_new_key<V, H: KeyHash>(
     pairs: &[(IString, V)],
-    index: &mut Index,
+    slots: &mut Slots,
     modulus: Modulus,
     position: usize,
     steps: &mut usize,
 ) -> Option<usize>
-    requires counted { modulus.count ≡ length index.old.slots }
+    requires counted { modulus.count ≡ length slots.old }
     requires within { position < length pairs.now }
-    requires room { position < length index.old.slots }
-    requires placed { FirstPlaced (kept_hash (length index.old.slots) H.hash_of) pairs.now position index.old }
-    requires fits { steps.old + 2 * length index.old.slots < 2 ^ 64 }
+    requires room { position < length slots.old }
+    requires placed { FirstPlaced H.hash_of pairs.now position slots.old }
+    requires fits { steps.old + 2 * length slots.old < 2 ^ 64 }
     ensures found { result ≡ at (take position pairs.now) (get_or (keys_of pairs.now) position []) }
     ensures placed { MatchOption result
-        (FirstPlaced (kept_hash (length index.old.slots) H.hash_of) pairs.now (position + 1) index.new)
-        (λ _. index.new ≡ index.old) }
-    ensures count { length index.new.slots ≡ length index.old.slots }
-    ensures steps { steps.new ≤ steps.old + 2 * length index.old.slots }
-    ensures counted { CountsSteps (kept_hash (length index.old.slots) H.hash_of) (keys_of (take position pairs.now))
-        (get_or (keys_of pairs.now) position []) index.old index.new (steps.new - steps.old) }
+        (FirstPlaced H.hash_of pairs.now (position + 1) slots.new)
+        (λ _. slots.new ≡ slots.old) }
+    ensures count { length slots.new ≡ length slots.old }
+    ensures steps { steps.new ≤ steps.old + 2 * length slots.old }
+    ensures counted { CountsSteps H.hash_of (keys_of (take position pairs.now))
+        (get_or (keys_of pairs.now) position []) (positions slots.old) (positions slots.new) (steps.new - steps.old) }
     ensures grows { steps.old < steps.new }
 {
     let key = pairs[position].0.as_str();
@@ -87,15 +88,14 @@ pub fn add_new_key<V, H: KeyHash>(
     let hash = modulus.kept_hash(whole);
     let home = modulus.home_of_hash(whole);
     let before = &pairs[..position];
-    let slots = modulus.count;
-    match index.probe_for(before, modulus, hash, home, key, &mut Looks::new()) {
+    match slots.probe_for::<V, H>(before, modulus, hash, home, key, &mut Looks::new()) {
         Probed::Vacant(slot) => {
-            let last = index.push_at(slot, position, hash);
-            *steps += distance_between(slots, home, last) + 2;
+            let last = slots.shift_forward(slot, position, hash);
+            *steps += distance_between(modulus.count, home, last) + 2;
             None
         }
         Probed::Found { at, slot } => {
-            *steps += distance_between(slots, home, slot) + 1;
+            *steps += distance_between(modulus.count, home, slot) + 1;
             Some(at)
         }
         Probed::Full => unreachable!(),

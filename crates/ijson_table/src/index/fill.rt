@@ -5,15 +5,15 @@ ghost use Rattle.std.specs.List.{All};
 ghost use Rattle.ijson_table.specs.Growth.{capacity_limit};
 ghost use Rattle.ijson_table.specs.Slots.{times, IsOrdered};
 ghost use Rattle.ijson_table.specs.Store.{keys_of};
-ghost use Rattle.ijson_table.specs.private.HomeOrder.{home_before, home_in, AreInHomeOrder, CanBePlaced};
-ghost use Rattle.ijson_table.specs.private.KeptHash.{kept, kept_hash};
+ghost use Rattle.ijson_table.specs.private.Entries.{AreEntries};
+ghost use Rattle.ijson_table.specs.private.HomeOrder.{home_before, home_in, CanBePlaced};
+ghost use Rattle.ijson_table.specs.private.Insertion.{IsTableOf};
 ghost use Rattle.ijson_table.specs.private.Narrow.{Fits};
 ghost use Rattle.ijson_table.specs.private.Probe.{onward};
 ghost use Rattle.ijson_table.specs.private.SlotHashes.{blank, position_in, positions, HaveHashes};
 ghost use Rattle.ijson_table.specs.private.Sorting.{IsSortedBy};
 
 use crate::hash::KeyHash;
-use crate::index::Index;
 use crate::index::probe::next_slot;
 use crate::index::slots::Slots;
 use crate::slot::{Modulus, Slot, distance_between};
@@ -23,31 +23,6 @@ use crate::sorting::order::HomeOrder;
 use ijson_number::Looks;
 use ijson_string::IString;
 use std::alloc::{AllocError, Global};
-
-impl Index {
-    /// Fills empty slots, enough for all entries, from entries sorted by home slot.
-    ///
-    /// # Cost
-    ///
-    /// Linear in the number of entries, whatever their home slots.
-    fn fill(&mut self, sorted: &[Slot])
-        ghost hashes: { List ℕ }
-        requires empty { self.old.hashes ≡ [] }
-        requires room { length hashes ≤ length self.old.slots }
-        requires entries { AreInHomeOrder hashes (length self.old.slots) sorted.now }
-        requires kept { (i : ℕ) → kept (length self.old.slots) (get_or hashes i 0) ≡ get_or hashes i 0 }
-        ensures hashes { self.new.hashes ≡ hashes }
-        ensures count { length self.new.slots ≡ length self.old.slots }
-    {
-        if sorted.is_empty() {
-            return;
-        }
-        let modulus = Modulus::new(self.slots.len());
-        let start = first_in_row(sorted, modulus);
-        let first = modulus.home_of_hash(sorted[start].hash);
-        place_sorted(&mut self.slots, sorted, modulus, start, first);
-    }
-}
 
 /// Returns the index in `sorted` of the entry to write first.
 ///
@@ -83,7 +58,7 @@ fn place_sorted(slots: &mut Slots, sorted: &[Slot], modulus: Modulus, start: usi
     requires narrow { All (Fits (length slots.old)) sorted.now }
     ensures ordered { IsOrdered hashes (positions slots.new) }
     ensures placed { (i : ℕ) → times i (positions slots.new) ≡ times i (positions sorted.now) }
-    ensures hashes { HaveHashes hashes slots.new }
+    ensures hashes { HaveHashes (length slots.old) hashes slots.new }
     ensures count { length slots.new ≡ length slots.old }
 {
     let mut index = start;
@@ -114,29 +89,52 @@ fn steps_on(slots: usize, from: usize, steps: usize) -> usize
     }
 }
 
+/// Fills empty slots, enough for all entries, from entries sorted by home slot.
+///
+/// # Cost
+///
+/// Linear in the number of entries, whatever their home slots.
+fn fill(slots: &mut Slots, sorted: &[Slot])
+    ghost hashes: { List ℕ }
+    requires empty { IsTableOf [] slots.old }
+    requires room { length hashes ≤ length slots.old }
+    requires entries { AreEntries (length slots.old) hashes sorted.now }
+    requires sorted { IsSortedBy (home_before (length slots.old)) sorted.now }
+    ensures table { IsTableOf hashes slots.new }
+    ensures count { length slots.new ≡ length slots.old }
+{
+    if sorted.is_empty() {
+        return;
+    }
+    let modulus = Modulus::new(slots.len());
+    let start = first_in_row(sorted, modulus);
+    let first = modulus.home_of_hash(sorted[start].hash);
+    place_sorted(slots, sorted, modulus, start, first);
+}
+
 /// Fills empty slots with the indices of pairs, by sorting.
 ///
 /// The slots are enough for all of them. Each comparison of two entries is counted, and each key is hashed once.
 pub fn fill_sorted<V, H: KeyHash>(
     alloc: Global,
     pairs: &[(IString, V)],
-    index: &mut Index,
+    slots: &mut Slots,
     looks: &mut Looks,
 ) -> Result<(), AllocError>
-    requires empty { index.old.hashes ≡ [] }
-    requires some { 0 < length index.old.slots }
-    requires room { length pairs.now ≤ length index.old.slots }
+    requires empty { IsTableOf [] slots.old }
+    requires some { 0 < length slots.old }
+    requires room { length pairs.now ≤ length slots.old }
     requires limited { length pairs.now ≤ capacity_limit }
     requires fits { looks.old + 2 ^ 71 < 2 ^ 128 }
-    ensures hashes { OnOk result (index.new.hashes ≡ map (kept_hash (length index.old.slots) H.hash_of) (keys_of pairs.now)) }
-    ensures count { length index.new.slots ≡ length index.old.slots }
+    ensures table { OnOk result (IsTableOf (map H.hash_of (keys_of pairs.now)) slots.new) }
+    ensures count { length slots.new ≡ length slots.old }
     ensures grows { looks.old ≤ looks.new }
     ensures bounded { (k : ℕ) → length pairs.now ≤ 2 ^ k → looks.new ≤ looks.old + length pairs.now * k }
 {
-    let modulus = Modulus::new(index.len());
+    let modulus = Modulus::new(slots.len());
     let entries = entries_of::<V, H>(alloc, pairs, modulus)?;
     let order = HomeOrder { modulus };
     let sorted = merge_sort(alloc, &order, entries, looks)?;
-    index.fill(&sorted);
+    fill(slots, &sorted);
     Ok(())
 }

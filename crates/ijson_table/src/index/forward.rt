@@ -1,6 +1,6 @@
 //! `shift_forward`: the forward shift of residents, to insert one more.
 
-ghost use Rattle.std.specs.Prelude.{ℕ, ◌+◌, ◌<◌, ◌≤◌, List, length, map};
+ghost use Rattle.std.specs.Prelude.{ℕ, ◌+◌, ◌<◌, List, map};
 ghost use Rattle.ijson_table.specs.private.Insertion.{IsPut, MayPut};
 
 use crate::index::probe::next_slot;
@@ -9,8 +9,8 @@ use crate::slot::stored::StoredSlot;
 
 /// Inserts an index at slot `from`, and shifts the residents from there on forward by one slot.
 ///
-/// The key of the index has this hash. The shift ends at the first empty slot from there on, which is the last slot
-/// written and is returned. Residents move in the representation `S`.
+/// `hash` is the part of the hash of its key that the slots keep. The shift ends at the first empty slot from there on,
+/// which is the last slot written and is returned. Residents move in the representation `S`.
 pub fn shift_forward<S: StoredSlot + Copy + Drop>(
     slots: &mut [S],
     from: usize,

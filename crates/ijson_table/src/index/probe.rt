@@ -1,17 +1,19 @@
 //! The probe: the one walk over the slots of a table; `Lookup`: the probe for a key among pairs.
 
 ghost use Rattle.std.specs.Prelude.{◌≡◌, ◌↔◌, ℕ, ◌+◌, ◌-◌, ◌<◌, ◌≤◌, ◌^◌, Bool, List, [], length, get_or, map, Option, IsTrue};
-ghost use Rattle.ijson_table.specs.Slots.{after, displacement};
+ghost use Rattle.ijson_table.specs.Slots.{after};
 ghost use Rattle.ijson_table.specs.Store.{keys_of};
-ghost use Rattle.ijson_table.specs.private.Lookup.{found_at, is_hashed_key};
-ghost use Rattle.ijson_table.specs.private.HashIndex.{IsIndex};
-ghost use Rattle.ijson_table.specs.private.SlotHashes.{hashes_of};
+ghost use Rattle.ijson_table.specs.private.Insertion.{IsTableOf};
+ghost use Rattle.ijson_table.specs.private.KeptHash.{kept};
+ghost use Rattle.ijson_table.specs.private.Lookup.{found_at};
 ghost use Rattle.ijson_table.specs.private.Probe.{Ends, LooksAt, Passed};
 
+use crate::hash::KeyHash;
 use crate::slot::stored::StoredSlot;
 use crate::slot::{Modulus, Seen};
 use ijson_number::Looks;
 use ijson_string::IString;
+use std::marker::PhantomData;
 
 /// The end of a probe.
 #[derive(Clone, Copy, Drop)]
@@ -106,30 +108,31 @@ pub fn probe<P: ProbeTarget>(target: &P, count: usize, home: usize, looks: &mut 
 ///
 /// It reads the memory of a key only if the slot has the same hash.
 #[derive(Drop)]
-pub struct Lookup<'a, 'i, V, S: StoredSlot> {
+pub struct Lookup<'a, 'i, V, S: StoredSlot, H: KeyHash> {
     pub pairs: &'a [(IString, V)],
     pub slots: &'i [S],
     /// The number of slots.
     pub modulus: Modulus,
     pub hash: u64,
     pub key: &'a str,
-    ghost table: { IsIndex (map S.stands_for slots.now) },
-    ghost listed: { length pairs.now ≡ length (hashes_of (map S.stands_for slots.now)) },
+    pub hash_by: PhantomData<H>,
+    ghost table: { IsTableOf (map H.hash_of (keys_of pairs.now)) (map S.stands_for slots.now) },
     ghost counted: { modulus.count ≡ length slots.now },
+    ghost hashed: { hash ≡ kept modulus.count (H.hash_of key.now) },
 }
 
-impl<'a, 'i, V, S: StoredSlot + Copy> ProbeTarget for Lookup<'a, 'i, V, S> {
+impl<'a, 'i, V, S: StoredSlot + Copy, H: KeyHash> ProbeTarget for Lookup<'a, 'i, V, S, H> {
     ghost use Rattle.std.specs.Prelude.{map};
     ghost use Rattle.ijson_table.specs.Slots.{displacement};
     ghost use Rattle.ijson_table.specs.Store.{keys_of};
-    ghost use Rattle.ijson_table.specs.private.Lookup.{is_hashed_key};
-    ghost use Rattle.ijson_table.specs.private.SlotHashes.{hashes_of, positions};
+    ghost use Rattle.ijson_table.specs.private.Lookup.{is_key};
+    ghost use Rattle.ijson_table.specs.private.SlotHashes.{positions};
 
     ghost slots = { λ s. positions (map S.stands_for s.slots.now) };
 
-    ghost displacements = { λ s. displacement (hashes_of (map S.stands_for s.slots.now)) (positions (map S.stands_for s.slots.now)) };
+    ghost displacements = { λ s. displacement (map H.hash_of (keys_of s.pairs.now)) (positions (map S.stands_for s.slots.now)) };
 
-    ghost seeks = { λ s. is_hashed_key (hashes_of (map S.stands_for s.slots.now)) (keys_of s.pairs.now) s.hash s.key.now };
+    ghost seeks = { λ s. is_key (keys_of s.pairs.now) s.key.now };
 
     fn look(&self, slot: usize, looks: &mut Looks) -> Seen {
         looks.add_one();

@@ -5,12 +5,10 @@ ghost use Rattle.ijson_table.specs.Slots.{below, resident, times, IsOrdered};
 ghost use Rattle.ijson_table.specs.private.Closing.{closed};
 ghost use Rattle.ijson_table.specs.private.Holds.{Holds, HasEmpty, HasGap};
 ghost use Rattle.ijson_table.specs.private.Insertion.{EndsWith, IsTableOf, Stands};
-ghost use Rattle.ijson_table.specs.private.KeptHash.{kept};
 ghost use Rattle.ijson_table.specs.private.SlotHashes.{displacement_in, positions, HaveHashes};
 ghost use Rattle.ijson_table.specs.private.Probe.{IsVacancy};
 ghost use Rattle.std.specs.List.{remove, swap_remove as swapped_out};
 
-use crate::index::Index;
 use crate::index::probe::{ProbeTarget, Probed, next_slot, probe};
 use crate::index::slots::Slots;
 use crate::slot::{Modulus, Seen, Slot, distance_between};
@@ -47,11 +45,11 @@ impl<'a> ProbeTarget for HashProbe<'a> {
 }
 
 /// Returns the slot at which the probe for a missing key of this hash ends.
-fn vacancy(slots: &Slots, hash: u64) -> usize
-    requires { HasEmpty (positions slots.now) }
+fn vacancy(slots: &Slots, modulus: Modulus, hash: u64) -> usize
+    requires counted { modulus.count ≡ length slots.now }
+    requires empty { HasEmpty (positions slots.now) }
     ensures { IsVacancy (displacement_in slots.now) (length slots.now) (hash % length slots.now) result }
 {
-    let modulus = Modulus::new(slots.len());
     let newcomer = HashProbe {
         slots,
         modulus,
@@ -87,10 +85,10 @@ fn slot_of(slots: &Slots, position: usize, hash: u64) -> usize
 fn shift_back(slots: &mut Slots, from: usize)
     ghost hashes: { List ℕ }
     requires gap { HasGap hashes (positions slots.old) from }
-    requires hashes { HaveHashes hashes slots.old }
+    requires hashes { HaveHashes (length slots.old) hashes slots.old }
     ensures ordered { IsOrdered hashes (positions slots.new) }
     ensures placed { (i : ℕ) → times i (positions slots.new) ≡ times i (positions slots.old) }
-    ensures hashes { HaveHashes hashes slots.new }
+    ensures hashes { HaveHashes (length slots.old) hashes slots.new }
     ensures count { length slots.new ≡ length slots.old }
 {
     let count = slots.len();
@@ -116,7 +114,7 @@ fn take_out(slots: &mut Slots, position: usize, hash: u64)
     requires within { position < length hashes }
     requires hash { hash ≡ get_or hashes position 0 }
     ensures holds { Holds hashes (below (length hashes)) (Some position) (positions slots.new) }
-    ensures hashes { HaveHashes hashes slots.new }
+    ensures hashes { HaveHashes (length slots.old) hashes slots.new }
     ensures count { length slots.new ≡ length slots.old }
 {
     let slot = slot_of(slots, position, hash);
@@ -134,49 +132,51 @@ fn close_up(slots: &mut Slots, gone: usize)
     }
 }
 
-impl Index {
+impl Slots {
     /// Removes index `position` and gives its number to `last`, a different index.
     ///
     /// The hashes are those of their keys.
     pub fn swap_remove(&mut self, position: usize, hash: u64, last: usize, last_hash: u64)
-        requires { EndsWith self.old.hashes position hash last last_hash }
-        ensures hashes { self.new.hashes ≡ swapped_out self.old.hashes position 0 }
-        ensures count { length self.new.slots ≡ length self.old.slots }
+        ghost hashes: { List ℕ }
+        requires table { IsTableOf hashes self.old }
+        requires ends { EndsWith hashes position hash last last_hash }
+        ensures table { IsTableOf (swapped_out hashes position 0) self.new }
+        ensures count { length self.new ≡ length self.old }
     {
-        take_out(&mut self.slots, position, hash);
-        let there = slot_of(&self.slots, last, last_hash);
-        let moved = self.slots.at(there).hash;
-        self.slots.set(there, Slot::of(position, moved));
+        take_out(self, position, hash);
+        let there = slot_of(self, last, last_hash);
+        let moved = self.at(there).hash;
+        self.set(there, Slot::of(position, moved));
     }
 
     /// Gives index `position`, whose key has the hash `was`, another hash.
-    ///
-    /// Both are the parts of the hashes that the slots keep.
     pub fn rehash_one(&mut self, position: usize, was: u64, hash: u64)
         ghost hashes: { List ℕ }
-        requires hashes { hashes ≡ self.old.hashes }
+        requires table { IsTableOf hashes self.old }
         requires within { position < length hashes }
         requires was { was ≡ get_or hashes position 0 }
-        requires kept { hash ≡ kept (length self.old.slots) hash }
-        ensures hashes { self.new.hashes ≡ set hashes position hash }
-        ensures count { length self.new.slots ≡ length self.old.slots }
+        ensures table { IsTableOf (set hashes position hash) self.new }
+        ensures count { length self.new ≡ length self.old }
     {
-        take_out(&mut self.slots, position, was);
-        let slot = vacancy(&self.slots, hash);
-        self.slots.shift_forward(slot, position, hash);
+        take_out(self, position, was);
+        let modulus = Modulus::new(self.len());
+        let slot = vacancy(self, modulus, hash);
+        self.shift_forward(slot, position, modulus.kept_hash(hash));
     }
 
     /// Removes index `position`, whose key has this hash, and decrements each later index.
     pub fn shift_remove(&mut self, position: usize, hash: u64, last: usize)
+        ghost hashes: { List ℕ }
+        requires table { IsTableOf hashes self.old }
         requires within { position ≤ last }
-        requires last { last + 1 ≡ length self.old.hashes }
-        requires hash { hash ≡ get_or self.old.hashes position 0 }
-        ensures hashes { self.new.hashes ≡ remove self.old.hashes position }
-        ensures count { length self.new.slots ≡ length self.old.slots }
+        requires last { last + 1 ≡ length hashes }
+        requires hash { hash ≡ get_or hashes position 0 }
+        ensures table { IsTableOf (remove hashes position) self.new }
+        ensures count { length self.new ≡ length self.old }
     {
-        take_out(&mut self.slots, position, hash);
+        take_out(self, position, hash);
         if position < last {
-            close_up(&mut self.slots, position);
+            close_up(self, position);
         }
     }
 }

@@ -1,36 +1,44 @@
 //! `Slots`: the slots of a table, in the smallest representation that fits.
 
-ghost use Rattle.std.specs.Prelude.{◌≡◌, ℕ, ◌<◌, ◌≤◌, List, [], length, set, get_or, None, IfOk, OnErr};
-ghost use Rattle.std.specs.List.{All};
-ghost use Rattle.ijson_table.specs.declared.index.slots.TheConstants.{FEW_SLOTS};
-ghost use Rattle.ijson_table.specs.private.Insertion.{IsPut, MayPut};
+ghost use Rattle.std.specs.Prelude.{◌≡◌, ℕ, ◌+◌, ◌-◌, ◌<◌, ◌^◌, List, [], length, map, set, get_or, IfOk, OnErr};
+ghost use Rattle.ijson_table.specs.Crowd.{home_of};
+ghost use Rattle.ijson_table.specs.Slots.{displacement};
+ghost use Rattle.ijson_table.specs.Store.{keys_of};
+ghost use Rattle.ijson_table.specs.private.CountedSteps.{Walks};
+ghost use Rattle.ijson_table.specs.private.Insertion.{IsPut, IsTableOf, MayPut};
+ghost use Rattle.ijson_table.specs.private.KeptHash.{kept};
 ghost use Rattle.ijson_table.specs.private.Narrow.{Fits, MayHold};
-ghost use Rattle.ijson_table.specs.private.SlotHashes.{blank, position_in};
+ghost use Rattle.ijson_table.specs.private.Probe.{Passed};
+ghost use Rattle.ijson_table.specs.private.SlotHashes.{blank, positions};
 
+use crate::hash::KeyHash;
 use crate::index::forward::shift_forward;
-use crate::slot::Slot;
+use crate::index::probe::{Lookup, Probed, probe};
 use crate::slot::narrow::NarrowSlot;
 use crate::slot::stored::StoredSlot;
+use crate::slot::{Modulus, NARROW_SLOTS, Slot};
+use ijson_number::Looks;
+use ijson_string::IString;
 use std::alloc::{AllocError, Global};
-use std::marker::Model;
+use std::marker::{Model, PhantomData};
 use std::mem::size_of;
 
 /// The largest number of slots that are stored inline.
-pub const FEW_SLOTS: usize = 10;
+const FEW_SLOTS: usize = 10;
 
 /// Slots, each empty or with the index of an entry and the kept part of the hash of its key.
 ///
-/// Up to `FEW_SLOTS` slots do not allocate.
+/// The kept part is the whole hash or, with at most `NARROW_SLOTS` slots, the home slot and eight more bits. Up to `FEW_SLOTS` slots do not allocate.
 #[derive(Drop)]
 pub struct Slots {
-    pub stored: Stored,
+    stored: Stored,
 }
 
 /// The slots, in a representation by their number.
 ///
 /// Up to 10 are inline, up to 158 are a list of three bytes each, and more are a list of 16 bytes each.
 #[derive(Drop)]
-pub enum Stored {
+enum Stored {
     Few(FewSlots),
     Narrow(Vec<NarrowSlot>),
     Wide(Vec<Slot>),
@@ -38,9 +46,9 @@ pub enum Stored {
 
 /// At most 10 slots. Those from `count` on are unused.
 #[derive(Clone, Copy, Drop)]
-pub struct FewSlots {
-    pub count: u8,
-    pub slots: [NarrowSlot; FEW_SLOTS],
+struct FewSlots {
+    count: u8,
+    slots: [NarrowSlot; FEW_SLOTS],
 }
 
 const _: () = prove!(size_of::<Slots>() == 32);
@@ -59,6 +67,62 @@ impl Model for Slots {
 }
 
 impl Slots {
+    /// Creates no slots, which does not allocate.
+    pub fn new() -> Slots
+        ensures table { IsTableOf [] result }
+        ensures count { length result ≡ 0 }
+    {
+        let stored = Stored::Few(FewSlots {
+            count: 0,
+            slots: [NarrowSlot::EMPTY; FEW_SLOTS],
+        });
+        Slots { stored }
+    }
+
+    /// Creates `count` empty slots.
+    pub fn with_count(alloc: Global, count: usize) -> Result<Slots, AllocError>
+        ensures table { IfOk result (IsTableOf []) }
+        ensures count { IfOk result (λ slots. length slots ≡ count) }
+        ensures refused { OnErr result (0 < count) }
+    {
+        let stored = if count <= FEW_SLOTS {
+            Stored::Few(FewSlots {
+                count: count as u8,
+                slots: [NarrowSlot::EMPTY; FEW_SLOTS],
+            })
+        } else if count <= NARROW_SLOTS {
+            Stored::Narrow(vec![in alloc; NarrowSlot::EMPTY; count]?)
+        } else {
+            Stored::Wide(vec![in alloc; Slot::EMPTY; count]?)
+        };
+        Ok(Slots { stored })
+    }
+
+    /// Returns a copy of the slots.
+    pub fn copied(&self, alloc: Global) -> Result<Slots, AllocError>
+        ensures copied { IfOk result (λ slots. slots ≡ self.now) }
+        ensures refused { OnErr result (0 < length self.now) }
+    {
+        let stored = match &self.stored {
+            Stored::Few(few) => Stored::Few(*few),
+            Stored::Narrow(slots) => Stored::Narrow(Vec::from_slice(alloc, slots)?),
+            Stored::Wide(slots) => Stored::Wide(Vec::from_slice(alloc, slots)?),
+        };
+        Ok(Slots { stored })
+    }
+
+    /// Empties all slots.
+    pub fn clear(&mut self)
+        ensures table { IsTableOf [] self.new }
+        ensures count { length self.new ≡ length self.old }
+    {
+        match &mut self.stored {
+            Stored::Few(few) => few.slots.fill(NarrowSlot::EMPTY),
+            Stored::Narrow(slots) => slots.fill(NarrowSlot::EMPTY),
+            Stored::Wide(slots) => slots.fill(Slot::EMPTY),
+        }
+    }
+
     /// Returns the number of slots.
     #[inline(always)]
     pub fn len(&self) -> usize
@@ -99,10 +163,59 @@ impl Slots {
         }
     }
 
+    /// Probes for a key among pairs, from its home slot.
+    ///
+    /// `hash` is the part of its hash that the slots keep. Their representation is tested once.
+    #[inline(always)]
+    pub fn probe_for<V, H: KeyHash>(
+        &self,
+        pairs: &[(IString, V)],
+        modulus: Modulus,
+        hash: u64,
+        home: usize,
+        key: &str,
+        looks: &mut Looks,
+    ) -> Probed
+        requires table { IsTableOf (map H.hash_of (keys_of pairs.now)) self.now }
+        requires counted { modulus.count ≡ length self.now }
+        requires hash { hash ≡ kept modulus.count (H.hash_of key.now) }
+        requires home { home ≡ home_of H.hash_of modulus.count key.now }
+        requires fits { (m : ℕ) → m < length self.now
+            → Passed (displacement (map H.hash_of (keys_of pairs.now)) (positions self.now)) (length self.now) home m
+            → looks.old + m + 1 < 2 ^ 128 }
+        ensures grows { looks.old ≤ looks.new }
+        ensures ends { Walks H.hash_of (keys_of pairs.now) (positions self.now) key.now (looks.new - looks.old) result }
+    {
+        let narrow: &[NarrowSlot] = match &self.stored {
+            Stored::Few(few) => &few.slots[..usize::from(few.count)],
+            Stored::Narrow(slots) => slots,
+            Stored::Wide(slots) => {
+                let lookup = Lookup {
+                    pairs,
+                    slots,
+                    modulus,
+                    hash,
+                    key,
+                    hash_by: PhantomData::<H>,
+                };
+                return probe(&lookup, modulus.count, home, looks);
+            }
+        };
+        let lookup = Lookup {
+            pairs,
+            slots: narrow,
+            modulus,
+            hash,
+            key,
+            hash_by: PhantomData::<H>,
+        };
+        probe(&lookup, modulus.count, home, looks)
+    }
+
     /// Inserts an index at slot `from`, and shifts the residents from there on forward by one slot.
     ///
-    /// The key of the index has this hash. The shift ends at the first empty slot from there on, which is the last slot
-    /// written and is returned. The representation is tested once.
+    /// `hash` is the part of the hash of its key that the slots keep. The shift ends at the first empty slot from there on,
+    /// which is the last slot written and is returned. The representation is tested once.
     pub fn shift_forward(&mut self, from: usize, position: usize, hash: u64) -> usize
         ghost hashes: { List ℕ }
         requires may { MayPut hashes self.old position hash from }

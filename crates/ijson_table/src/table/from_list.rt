@@ -7,14 +7,14 @@ ghost use Rattle.ijson_table.specs.Crowd.{slot_count};
 ghost use Rattle.ijson_table.specs.Growth.{capacity_limit};
 ghost use Rattle.ijson_table.specs.Store.{put_each};
 ghost use Rattle.ijson_table.specs.private.FirstPlaced.{FirstPlaced};
-ghost use Rattle.ijson_table.specs.private.KeptHash.{kept_hash};
+ghost use Rattle.ijson_table.specs.private.Insertion.{IsTableOf};
 
 use super::Table;
 use crate::growth::{limited, slots_for};
 use crate::hash::KeyHash;
-use crate::index::Index;
 use crate::index::add::{STEPS_A_PAIR, add_new_key, add_new_keys};
 use crate::index::fill::fill_sorted;
+use crate::index::slots::Slots;
 use crate::slot::Modulus;
 use crate::sorting::build::put_sorted;
 use crate::store::ReserveError;
@@ -70,35 +70,35 @@ impl<V: Drop, H: KeyHash> Table<V, H> {
     {
         let capacity = limited(pairs.len())?;
         tighten(alloc, &mut pairs)?;
-        let mut index = Index::with_slots(alloc, slots_for(capacity))?;
+        let mut slots = Slots::with_count(alloc, slots_for(capacity))?;
         let most = STEPS_A_PAIR * capacity;
         let mut steps = 0;
-        let (kept, read) = put_in_place::<V, H>(&mut pairs, &mut index, most, &mut steps);
+        let (kept, read) = put_in_place::<V, H>(&mut pairs, &mut slots, most, &mut steps);
         looks.add(steps as u128);
         remove_range(&mut pairs, kept, read);
         if read < capacity {
-            return Ok(Table::from_pairs_sorted(alloc, pairs, index, looks)?);
+            return Ok(Table::from_pairs_sorted(alloc, pairs, slots, looks)?);
         }
         Ok(Table {
             pairs,
-            index,
+            slots,
             alloc,
             hash: PhantomData,
         })
     }
 
-    /// Like `from_pairs`, by sorting, with the slots of `index`.
+    /// Like `from_pairs`, by sorting, with these slots.
     ///
     /// The capacity is that of the list.
     fn from_pairs_sorted(
         alloc: Global,
         pairs: Vec<(IString, V)>,
-        mut index: Index,
+        mut slots: Slots,
         looks: &mut Looks,
     ) -> Result<Table<V, H>, AllocError>
         requires some { 0 < length pairs.items }
         requires limited { vec_capacity pairs ≤ capacity_limit }
-        requires slots { length index.slots ≡ slot_count (vec_capacity pairs) }
+        requires slots { length slots ≡ slot_count (vec_capacity pairs) }
         requires fits { looks.old + 2 ^ 71 + 2 ^ 64 < 2 ^ 128 }
         ensures pairs { IfOk result (λ table. table.store.pairs ≡ put_each [] pairs.items) }
         ensures capacity { IfOk result (λ table. table.store.capacity ≡ vec_capacity pairs) }
@@ -106,18 +106,18 @@ impl<V: Drop, H: KeyHash> Table<V, H> {
         ensures bounded { (k : ℕ) → vec_capacity pairs ≤ 2 ^ k → looks.new ≤ looks.old + vec_capacity pairs * (1 + 2 * k) }
     {
         let Ok(pairs) = put_sorted(alloc, pairs, looks) else {
-            drop(index);
+            drop(slots);
             return Err(AllocError);
         };
-        index.clear();
-        if let Err(refused) = fill_sorted::<V, H>(alloc, &pairs, &mut index, looks) {
+        slots.clear();
+        if let Err(refused) = fill_sorted::<V, H>(alloc, &pairs, &mut slots, looks) {
             drop(pairs);
-            drop(index);
+            drop(slots);
             return Err(refused);
         }
         Ok(Table {
             pairs,
-            index,
+            slots,
             alloc,
             hash: PhantomData,
         })
@@ -131,35 +131,35 @@ impl<V: Drop, H: KeyHash> Table<V, H> {
 #[inline(always)]
 fn put_in_place<V: Drop, H: KeyHash>(
     pairs: &mut [(IString, V)],
-    index: &mut Index,
+    slots: &mut Slots,
     most: usize,
     steps: &mut usize,
 ) -> (usize, usize)
-    requires empty { index.old.hashes ≡ [] }
-    requires room { length pairs.old ≤ length index.old.slots }
+    requires empty { IsTableOf [] slots.old }
+    requires room { length pairs.old ≤ length slots.old }
     requires most { most ≤ 2 ^ 62 }
     requires steps { steps.old ≡ 0 }
-    requires few { length index.old.slots ≤ 2 ^ 60 }
+    requires few { length slots.old ≤ 2 ^ 60 }
     ensures within { result.0 ≤ result.1 }
     ensures read { result.1 ≤ length pairs.old }
-    ensures placed { FirstPlaced (kept_hash (length index.old.slots) H.hash_of) pairs.new result.0 index.new }
+    ensures placed { FirstPlaced H.hash_of pairs.new result.0 slots.new }
     ensures pairs { put_each (take result.0 pairs.new) (drop result.1 pairs.new) ≡ put_each [] pairs.old }
     ensures stops { result.1 < length pairs.old → most < steps.new }
-    ensures count { length index.new.slots ≡ length index.old.slots }
-    ensures steps { steps.new ≤ most + 2 * length index.old.slots }
+    ensures count { length slots.new ≡ length slots.old }
+    ensures steps { steps.new ≤ most + 2 * length slots.old }
     ensures counted { result.1 ≤ steps.new }
 {
-    let mut kept = add_new_keys::<V, H>(pairs, index, most, steps);
+    let mut kept = add_new_keys::<V, H>(pairs, slots, most, steps);
     if kept == pairs.len() {
         return (kept, kept);
     }
-    let modulus = Modulus::new(index.len());
+    let modulus = Modulus::new(slots.len());
     for position in kept..pairs.len() {
         if *steps > most {
             return (kept, position);
         }
         pairs.swap(kept, position);
-        match add_new_key::<V, H>(pairs, index, modulus, kept, steps) {
+        match add_new_key::<V, H>(pairs, slots, modulus, kept, steps) {
             None => kept += 1,
             // Both have the same key, so its index is still right.
             Some(at) => pairs.swap(at, kept),

@@ -20,7 +20,8 @@ use Rattle.ijson_table.specs.Store.{IsDistinct, keys_of}
 use Rattle.ijson_table.specs.laws.Store.{IsDistinct-prop}
 use Rattle.ijson_table.specs.Placed.{Placed}
 use Rattle.ijson_table.specs.laws.Placed.{IsPlaced-prop, placed_along}
-use Rattle.ijson_table.specs.private.HashIndex.{HashIndex}
+use Rattle.ijson_table.specs.declared.slot.Slot.{Slot}
+use Rattle.ijson_table.specs.private.SlotHashes.{positions}
 use Rattle.ijson_table.specs.declared.hash.KeyHash as hashing
 use Rattle.ijson_table.specs.formers.linear.LinearPairs as linear
 use Rattle.ijson_table.specs.declared.table.Table.TheInside.{Inside}
@@ -49,7 +50,7 @@ the_items_listed H X t = linear.the_items_listed X t.store
 
 -- the fields: a `Vec` of pairs with distinct keys, and the fields without values
 abbrev columns : Type 0 → Former {0}
-columns H = pair (vec.the_former (linear.entry this) Global) (const (HashIndex × (Global × PhantomData H)))
+columns H = pair (vec.the_former (linear.entry this) Global) (const (List Slot × (Global × PhantomData H)))
 
 keys_in_shape : (H X : Type 0) (c : (columns H).Of X) → keys_of ((columns H).shape X c).0.items ≡ keys_of c.0.items
 keys_in_shape H X c = linear.keys_on_values _ c.0.items
@@ -58,8 +59,8 @@ abbrev fields : (H : Type 0) → hashing.Ghosts H → Former {0}
 fields H K = via (such (columns H) (λ X c. IsDistinct (keys_of c.0.items)) (λ a. IsDistinct (keys_of a.0.items))
     (λ X c. IsDistinct-prop (keys_of c.0.items)) (λ a. IsDistinct-prop (keys_of a.0.items))
     (λ X c p. subst IsDistinct (sym (keys_in_shape H X c)) p) (λ X c q. subst IsDistinct (keys_in_shape H X c) q))
-    (λ X. Inside X H K) (λ X u. ((u.pairs, (u.index, (u.alloc, u.hash))), u.distinct))
-    (λ X v. record { pairs = v.0.0; index = v.0.1.0; alloc = v.0.1.1.0; hash = v.0.1.1.1; distinct = v.1 })
+    (λ X. Inside X H K) (λ X u. ((u.pairs, (u.slots, (u.alloc, u.hash))), u.distinct))
+    (λ X v. record { pairs = v.0.0; slots = v.0.1.0; alloc = v.0.1.1.0; hash = v.0.1.1.1; distinct = v.1 })
     (λ X u. refl) (λ X v. refl)
 
 module _ (H : RattleType) (K : hashing.Ghosts H.Denot) where
@@ -73,7 +74,7 @@ module _ (H : RattleType) (K : hashing.Ghosts H.Denot) where
           (view Y H.Denot K ((fields H.Denot K).map X Y h u)).store.distinct
           ((the_former this H.Denot).map X Y h (view X H.Denot K u)).store.distinct i;
     };
-    slots = u.index.slots;
+    slots = positions u.slots;
   }
 
   module _ (R S : RattleType) (h : R.Denot → S.Denot) where
@@ -81,11 +82,11 @@ module _ (H : RattleType) (K : hashing.Ghosts H.Denot) where
     the_places a = view_places (fields H.Denot K) (the_former this H.Denot) (λ X. view X H.Denot K) natural
         (λ X u. refl) R.Denot S.Denot h (C.the_row R H K).coded (C.the_row S H K).coded
         (invariant R.Denot H.Denot K) (invariant S.Denot H.Denot K)
-        (λ u. IsPlaced-prop K.hash_of u.pairs.items (vec_capacity u.pairs) u.index)
-        (λ u. IsPlaced-prop K.hash_of u.pairs.items (vec_capacity u.pairs) u.index)
-        (λ u. placed_along K.hash_of u.pairs.items (map (linear.on_value h) u.pairs.items) (vec_capacity u.pairs) u.index
+        (λ u. IsPlaced-prop K.hash_of u.pairs.items (vec_capacity u.pairs) u.slots)
+        (λ u. IsPlaced-prop K.hash_of u.pairs.items (vec_capacity u.pairs) u.slots)
+        (λ u. placed_along K.hash_of u.pairs.items (map (linear.on_value h) u.pairs.items) (vec_capacity u.pairs) u.slots
         (sym (linear.keys_on_values h u.pairs.items)) (sym (linear.length_on_values h u.pairs.items)))
-        (λ u. placed_along K.hash_of (map (linear.on_value h) u.pairs.items) u.pairs.items (vec_capacity u.pairs) u.index
+        (λ u. placed_along K.hash_of (map (linear.on_value h) u.pairs.items) u.pairs.items (vec_capacity u.pairs) u.slots
         (linear.keys_on_values h u.pairs.items) (linear.length_on_values h u.pairs.items))
         (within (I.the_row R H K)) (within (I.the_row S H K))
         (struct_places (I.the_type R H K) (I.the_type S H K)
