@@ -9,9 +9,11 @@ use Rattle.ijson_table.specs.declared.slot.Slot.{Slot}
 use Rattle.ijson_table.specs.Crowd.{distance}
 use Rattle.ijson_table.specs.Slots.{home_at, displaced, displacement, resident}
 use Rattle.ijson_table.proofs.probing.ProbePath.{displacement-some}
+use Rattle.ijson_table.specs.private.KeptHash.{kept}
 use Rattle.ijson_table.specs.private.SlotHashes.{position_in, positions, blank, coded_position, displaced_by, displacement_in, HasHash}
 use Rattle.ijson_table.specs.private.SlotHashes.{HaveHashes, SeenAs}
 use Rattle.ijson_table.specs.private.Probe.{LooksAt}
+use Rattle.ijson_table.proofs.slots.KeptHashes.{kept-home}
 use Rattle.ijson_table.specs.declared.slot.Seen.{Seen}
 use Rattle.ijson_table.specs.declared.slot.Seen.TheVariants.{Empty, Resident}
 
@@ -39,62 +41,95 @@ pub seen_at : {X : Type 0} (f : X → Slot) (slots : List X) (p : ℕ) (read : X
 seen_at f slots p read lp is = ap f is ∙ sym (get_or-map f slots p read blank (omega (arith, lp, length-map slots f)))
 
 -- an empty slot has no hash to check
-pub nothing_has_hash : (hashes : List ℕ) (slot : Slot) → position_in slot ≡ None → HasHash hashes slot
-nothing_has_hash hashes slot none i e = let bad : ◌≡◌ {A = Option ℕ} (Some i) None = sym e ∙ none in cc
+pub nothing_has_hash : (n : ℕ) (hashes : List ℕ) (slot : Slot) → position_in slot ≡ None → HasHash n hashes slot
+nothing_has_hash n hashes slot none i e = let bad : ◌≡◌ {A = Option ℕ} (Some i) None = sym e ∙ none in cc
 
 -- the one index in the slot has this hash
-pub has_own_hash : (hashes : List ℕ) (slot : Slot) (i : ℕ) → position_in slot ≡ Some i → slot.hash ≡ get_or hashes i 0 → HasHash hashes slot
-has_own_hash hashes slot i at is k e =
+pub has_own_hash : (n : ℕ) (hashes : List ℕ) (slot : Slot) (i : ℕ) → position_in slot ≡ Some i → slot.hash ≡ kept n (get_or hashes i 0)
+    → HasHash n hashes slot
+has_own_hash n hashes slot i at is k e =
     let who : ◌≡◌ {A = Option ℕ} (Some i) (Some k) = sym at ∙ e in
     let same : i ≡ k = cc in
-    is ∙ ap (λ n. get_or hashes n 0) same
+    is ∙ ap (λ j. kept n (get_or hashes j 0)) same
 
-module _ (hashes : List ℕ) where
+module _ (n : ℕ) (hashes : List ℕ) where
   -- a slot that is read has its hash
-  pub hashes-at : (slots : List Slot) (p : ℕ) → HaveHashes hashes slots → p < length slots → HasHash hashes (get_or slots p blank)
-  hashes-at slots p have lp = All-get_or (HasHash hashes) slots p blank lp have
+  pub hashes-at : (slots : List Slot) (p : ℕ) → HaveHashes n hashes slots → p < length slots → HasHash n hashes (get_or slots p blank)
+  hashes-at slots p have lp = All-get_or (HasHash n hashes) slots p blank lp have
 
   -- a slot that is written has the hash written
-  pub hashes-set : (slots : List Slot) (p : ℕ) (slot : Slot) → HasHash hashes slot → HaveHashes hashes slots
-      → HaveHashes hashes (set slots p slot)
-  hashes-set slots p slot has have = All-set (HasHash hashes) slots p slot has have
+  pub hashes-set : (slots : List Slot) (p : ℕ) (slot : Slot) → HasHash n hashes slot → HaveHashes n hashes slots
+      → HaveHashes n hashes (set slots p slot)
+  hashes-set slots p slot has have = All-set (HasHash n hashes) slots p slot has have
 
   -- the stored hash gives the home slot
-  hash-home : (n i : ℕ) (slot : Slot) → HasHash hashes slot → position_in slot ≡ Some i → slot.hash % n ≡ home_at n hashes i
+  hash-home : (i : ℕ) (slot : Slot) → HasHash n hashes slot → position_in slot ≡ Some i → slot.hash % n ≡ home_at n hashes i
   unfolding home_at
-  hash-home n i slot has at = ap (λ h. h % n) (has i at)
+  hash-home i slot has at = ap (λ h. h % n) (has i at) ∙ kept-home n (get_or hashes i 0)
 
   -- so it gives the distance of a slot from the home slot of its resident
-  pub hash-distance : (n p i d : ℕ) (slot : Slot) → HasHash hashes slot → position_in slot ≡ Some i → d ≡ distance n (slot.hash % n) p
+  pub hash-distance : (p i d : ℕ) (slot : Slot) → HasHash n hashes slot → position_in slot ≡ Some i → d ≡ distance n (slot.hash % n) p
       → d ≡ distance n (home_at n hashes i) p
-  hash-distance n p i d slot has at is = is ∙ ap (λ h. distance n h p) (hash-home n i slot has at)
+  hash-distance p i d slot has at is = is ∙ ap (λ h. distance n h p) (hash-home i slot has at)
 
   -- a slot is displaced by the stored hash as by the key
-  displaced-by : (n p code hash : ℕ) → HasHash hashes (record { code = code; hash = hash })
+  displaced-by : (p code hash : ℕ) → HasHash n hashes (record { code = code; hash = hash })
       → displaced_by n p (record { code = code; hash = hash }) code ≡ displaced n hashes p
       (position_in (record { code = code; hash = hash }))
-  displaced-by n p zero hash has = refl
-  displaced-by n p (suc i) hash has = ap (λ h. distance n h p + 1) (hash-home n i (record { code = suc i; hash = hash }) has refl)
+  displaced-by p zero hash has = refl
+  displaced-by p (suc i) hash has = ap (λ h. distance n h p + 1) (hash-home i (record { code = suc i; hash = hash }) has refl)
 
+  -- empty slots have no hashes to differ
+  pub hashes-none : (slots : List Slot) → All (λ slot. position_in slot ≡ None) slots → HaveHashes n hashes slots
+  hashes-none slots empty = λ p d lp. nothing_has_hash n hashes (slice_index_or slots p d) (empty p d lp)
+
+  -- one slot, with other hashes that agree there
+  has_hash-as : (hashes' : List ℕ) (slot : Slot) → HasHash n hashes slot
+      → ((i : ℕ) → position_in slot ≡ Some i → get_or hashes' i 0 ≡ get_or hashes i 0) → HasHash n hashes' slot
+  has_hash-as hashes' slot has same i e = has i e ∙ sym (ap (kept n) (same i e))
+
+  -- other hashes to which no slot refers
+  pub hashes-as : (hashes' : List ℕ) (slots : List Slot) → HaveHashes n hashes slots
+      → ((p i : ℕ) → p < length (positions slots) → resident (positions slots) p ≡ Some i → get_or hashes' i 0 ≡ get_or hashes i 0)
+      → HaveHashes n hashes' slots
+  hashes-as hashes' slots have same = All-from_get_or (HasHash n hashes') slots blank (λ p lp.
+      has_hash-as hashes' (get_or slots p blank) (hashes-at slots p have lp)
+      (λ i e. same p i (omega (arith, lp, positions-length slots)) (position-at slots p (Some i) lp (sym e))))
+
+  -- other hashes to which at most one slot refers, which is rewritten
+  pub hashes-put : (hashes' : List ℕ) (slots : List Slot) (p : ℕ) (slot : Slot) → HaveHashes n hashes slots → HasHash n hashes' slot
+      → ((q i : ℕ) → q < length (positions slots) → q ≢ p → resident (positions slots) q ≡ Some i → get_or hashes' i 0 ≡ get_or hashes i 0)
+      → HaveHashes n hashes' (set slots p slot)
+  hashes-put hashes' slots p slot have has same = All-from_get_or (HasHash n hashes') (set slots p slot) blank (λ q lq'.
+      let lq : q < length slots = omega (arith, lq', length-set slots p slot) in
+      elim (cases_eq q p) [
+        | inl self ↦ subst (HasHash n hashes') (sym (ap (λ k. get_or (set slots p slot) k blank) self
+            ∙ get_or-set_same slots p slot blank (omega (arith, lq, self)))) has
+        | inr other ↦ subst (HasHash n hashes') (sym (get_or-set_other slots p q slot blank other))
+            (has_hash-as hashes' (get_or slots q blank) (hashes-at slots q have lq)
+            (λ i e. same q i (omega (arith, lq, positions-length slots)) other (position-at slots q (Some i) lq (sym e))))
+      ])
+
+module _ (hashes : List ℕ) where
   -- so are all slots
-  pub displacement-in : (slots : List Slot) (p : ℕ) → HaveHashes hashes slots → p < length slots
+  pub displacement-in : (slots : List Slot) (p : ℕ) → HaveHashes (length slots) hashes slots → p < length slots
       → displacement_in slots p ≡ displacement hashes (positions slots) p
   unfolding displacement_in displacement
   displacement-in slots p have lp =
       let slot : Slot = get_or slots p blank in
       let size : length slots ≡ length (positions slots) = sym (positions-length slots) in
-      displaced-by (length slots) p slot.code slot.hash (hashes-at slots p have lp)
+      displaced-by (length slots) hashes p slot.code slot.hash (hashes-at (length slots) hashes slots p have lp)
       ∙ (ap (λ n. displaced n hashes p (position_in slot)) size
       ∙ ap (displaced (length (positions slots)) hashes p) (sym (position-at slots p (position_in slot) lp refl)))
 
   -- a computed distance gives the displacement
-  pub displacement-read : (slots : List Slot) (p i d : ℕ) → HaveHashes hashes slots → p < length slots
+  pub displacement-read : (slots : List Slot) (p i d : ℕ) → HaveHashes (length slots) hashes slots → p < length slots
       → Some i ≡ position_in (get_or slots p blank) → d ≡ distance (length slots) ((get_or slots p blank).hash % length slots) p
       → displacement hashes (positions slots) p ≡ d + 1
   displacement-read slots p i d have lp at is =
       let size : length slots ≡ length (positions slots) = sym (positions-length slots) in
       let far : d ≡ distance (length slots) (home_at (length slots) hashes i) p =
-      hash-distance (length slots) p i d (get_or slots p blank) (hashes-at slots p have lp) (sym at) is in
+      hash-distance (length slots) hashes p i d (get_or slots p blank) (hashes-at (length slots) hashes slots p have lp) (sym at) is in
       omega (
         arith,
         displacement-some hashes (positions slots) p i (position-at slots p (Some i) lp at),
@@ -102,37 +137,6 @@ module _ (hashes : List ℕ) where
         ap
             (λ n. distance n (home_at n hashes i) p) size,
       )
-
-  -- empty slots have no hashes to differ
-  pub hashes-none : (slots : List Slot) → All (λ slot. position_in slot ≡ None) slots → HaveHashes hashes slots
-  hashes-none slots empty = λ p d lp. nothing_has_hash hashes (slice_index_or slots p d) (empty p d lp)
-
-  -- one slot, with other hashes that agree there
-  has_hash-as : (hashes' : List ℕ) (slot : Slot) → HasHash hashes slot
-      → ((i : ℕ) → position_in slot ≡ Some i → get_or hashes' i 0 ≡ get_or hashes i 0) → HasHash hashes' slot
-  has_hash-as hashes' slot has same i e = has i e ∙ sym (same i e)
-
-  -- other hashes to which no slot refers
-  pub hashes-as : (hashes' : List ℕ) (slots : List Slot) → HaveHashes hashes slots
-      → ((p i : ℕ) → p < length (positions slots) → resident (positions slots) p ≡ Some i → get_or hashes' i 0 ≡ get_or hashes i 0)
-      → HaveHashes hashes' slots
-  hashes-as hashes' slots have same = All-from_get_or (HasHash hashes') slots blank (λ p lp.
-      has_hash-as hashes' (get_or slots p blank) (hashes-at slots p have lp)
-      (λ i e. same p i (omega (arith, lp, positions-length slots)) (position-at slots p (Some i) lp (sym e))))
-
-  -- other hashes to which at most one slot refers, which is rewritten
-  pub hashes-put : (hashes' : List ℕ) (slots : List Slot) (p : ℕ) (slot : Slot) → HaveHashes hashes slots → HasHash hashes' slot
-      → ((q i : ℕ) → q < length (positions slots) → q ≢ p → resident (positions slots) q ≡ Some i → get_or hashes' i 0 ≡ get_or hashes i 0)
-      → HaveHashes hashes' (set slots p slot)
-  hashes-put hashes' slots p slot have has same = All-from_get_or (HasHash hashes') (set slots p slot) blank (λ q lq'.
-      let lq : q < length slots = omega (arith, lq', length-set slots p slot) in
-      elim (cases_eq q p) [
-        | inl self ↦ subst (HasHash hashes') (sym (ap (λ k. get_or (set slots p slot) k blank) self
-            ∙ get_or-set_same slots p slot blank (omega (arith, lq, self)))) has
-        | inr other ↦ subst (HasHash hashes') (sym (get_or-set_other slots p q slot blank other))
-            (has_hash-as hashes' (get_or slots q blank) (hashes-at slots q have lq)
-            (λ i e. same q i (omega (arith, lq, positions-length slots)) other (position-at slots q (Some i) lq (sym e))))
-      ])
 
 -- empty slots have no residents
 pub all_empty : (slots : List Slot) → All (λ slot. position_in slot ≡ None) slots → (p : ℕ) → p < length (positions slots)

@@ -1,0 +1,84 @@
+-- Slots that are a table of hashes, and one more index in them.
+use Rattle.std.proofs.Common.{◌≡◌, ℕ, ◌+◌, ◌<◌, ◌≤◌, ◌^◌, arith, List, [], ◌∷◌, ◌++◌, length, take, drop, get_or, Option, Some, None, refl}
+use Rattle.std.proofs.Common.{sym, ap, subst, ◌∙◌, length-append}
+use Rattle.std.specs.List.{All}
+use Rattle.std.proofs.lemmas.Bool.Decides.{nat_tests}
+use Rattle.std.proofs.lemmas.List.Elements.{All-from_get_or}
+use Rattle.std.proofs.Math.ListN.{get_or-append}
+use Rattle.std.proofs.Math.Seq.{get_or-append_seam}
+use Rattle.ijson_table.specs.declared.slot.Slot.{Slot}
+use Rattle.ijson_table.specs.Slots.{resident, times, below}
+use Rattle.ijson_table.specs.private.Holds.{with_one, HasEmpty, Holds}
+use Rattle.ijson_table.specs.private.Insertion.{Accepts, IsTableOf}
+use Rattle.ijson_table.specs.private.KeptHash.{kept}
+use Rattle.ijson_table.specs.private.SlotHashes.{position_in, positions, blank, HaveHashes}
+use Rattle.ijson_table.proofs.slots.HashesInSlots.{positions-length, position-at, all_empty, hashes-none, hashes-as}
+use Rattle.ijson_table.proofs.shifting.Insertion.{some_empty}
+use Rattle.ijson_table.proofs.shifting.Removal.{holds_none, holds_pushed, table-holds}
+use Rattle.ijson_table.proofs.slots.Residents.{times-some}
+use Rattle.ijson_table.proofs.probing.ProbePath.{in_list}
+
+-- a list that replaces all of another is the list
+whole-all : (new old : List Slot) → length new ≡ length old → take (length new) (new ++ drop (length new) old) ≡ new
+whole-all [] old e = refl
+whole-all (x ∷ xs) [] e = absurd (omega arith)
+whole-all (x ∷ xs) (y ∷ ys) e = ap (λ zs. x ∷ zs) (whole-all xs ys (omega arith))
+
+-- a slice that was lent as a whole
+pub whole : (n : ℕ) (new old : List Slot) → length new ≡ length old → n ≡ length old → take n (new ++ drop (length new) old) ≡ new
+whole n new old e is = ap (λ k. take k (new ++ drop (length new) old)) (is ∙ sym e) ∙ whole-all new old e
+
+-- empty slots are a table of no hashes
+pub empty_table : (slots : List Slot) → All (λ slot. position_in slot ≡ None) slots → IsTableOf [] slots
+empty_table slots empty = record {
+  table = table-holds [] 0 (positions slots) refl (holds_none [] (positions slots) (all_empty slots empty));
+  hashes_are = hashes-none (length slots) [] slots empty;
+}
+
+-- in such a table, a slot that is read is empty
+nothing_there : (slots : List Slot) → IsTableOf [] slots → (p : ℕ) → p < length slots → (read : Option ℕ)
+    → read ≡ position_in (get_or slots p blank) → position_in (get_or slots p blank) ≡ None
+nothing_there slots are p lp None e = sym e
+nothing_there slots are p lp (Some i) e =
+    let one = times-some i (positions slots) p (omega (arith, lp, positions-length slots)) (position-at slots p (Some i) lp e) in
+    absurd (grind (arith, nat_tests, one, are.table.placed i))
+
+-- so all are
+pub each_empty : (slots : List Slot) → IsTableOf [] slots → All (λ slot. position_in slot ≡ None) slots
+each_empty slots are = All-from_get_or (λ slot. position_in slot ≡ None) slots blank
+    (λ p lp. nothing_there slots are p lp (position_in (get_or slots p blank)) refl)
+
+module _ (hashes : List ℕ) (slots : List Slot) (are : IsTableOf hashes slots) (position hash : ℕ) (next : position ≡ length hashes)
+    (room : position < length slots) where
+  -- a slot is empty if there are more slots than hashes
+  some_slot_empty : HasEmpty (positions slots)
+  some_slot_empty =
+      let few : (i : ℕ) → times i (positions slots) ≤ below (length hashes + 1) i = λ i. grind (arith, nat_tests, are.table.placed i) in
+      let none : times (length hashes) (positions slots) ≡ 0 = grind (arith, nat_tests, are.table.placed (length hashes)) in
+      some_empty (positions slots) (length hashes + 1) (length hashes) few (omega arith) none
+      (omega (arith, next, room, positions-length slots))
+
+  -- one more index may be inserted into them
+  pub accepts : (part : ℕ) → part ≡ kept (length slots) hash → length slots < 2 ^ 64 → Accepts (hashes ++ hash ∷ []) slots position part
+  accepts part is limited = record {
+    fits = omega (arith, room, limited);
+    hash_is = is ∙ ap (kept (length slots)) (sym (ap (λ n. get_or (hashes ++ hash ∷ []) n 0) next ∙ get_or-append_seam hashes hash [] 0));
+    hashes_are = hashes-as (length slots) hashes (hashes ++ hash ∷ []) slots are.hashes_are
+        (λ p i lp e. get_or-append hashes (hash ∷ []) 0 i (in_list hashes (positions slots) are.table p i lp e));
+    ordered = (holds_pushed hashes hash (positions slots) are.table).ordered;
+    empty = some_slot_empty;
+  }
+
+  -- and was
+  pub pushed : (new : List Slot) → length new ≡ length slots
+      → Holds (hashes ++ hash ∷ []) (with_one (positions slots) position) None (positions new)
+      → HaveHashes (length slots) (hashes ++ hash ∷ []) new → IsTableOf (hashes ++ hash ∷ []) new
+  pushed new same held have =
+      let size : length (hashes ++ hash ∷ []) ≡ position + 1 = omega (arith, length-append hashes (hash ∷ []), next) in
+      record {
+        table = record {
+          ordered = held.ordered;
+          placed = λ i. grind (arith, nat_tests, held.placed i, are.table.placed i, next, size);
+        };
+        hashes_are = subst (λ n. HaveHashes n (hashes ++ hash ∷ []) new) (sym same) have;
+      }
