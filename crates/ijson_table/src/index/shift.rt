@@ -88,7 +88,7 @@ fn shift_back(slots: &mut Slots, from: usize)
     requires hashes { HaveHashes (length slots.old) hashes slots.old }
     ensures ordered { IsOrdered hashes (positions slots.new) }
     ensures placed { (i : ℕ) → times i (positions slots.new) ≡ times i (positions slots.old) }
-    ensures hashes { HaveHashes (length slots.old) hashes slots.new }
+    ensures hashes { HaveHashes (length slots.new) hashes slots.new }
     ensures count { length slots.new ≡ length slots.old }
 {
     let count = slots.len();
@@ -114,7 +114,7 @@ fn take_out(slots: &mut Slots, position: usize, hash: u64)
     requires within { position < length hashes }
     requires hash { hash ≡ get_or hashes position 0 }
     ensures holds { Holds hashes (below (length hashes)) (Some position) (positions slots.new) }
-    ensures hashes { HaveHashes (length slots.old) hashes slots.new }
+    ensures hashes { HaveHashes (length slots.new) hashes slots.new }
     ensures count { length slots.new ≡ length slots.old }
 {
     let slot = slot_of(slots, position, hash);
