@@ -1,6 +1,6 @@
 //! `Slots`: the slots of a table, in the smallest representation that fits.
 
-ghost use Rattle.std.specs.Prelude.{◌≡◌, ℕ, ◌+◌, ◌-◌, ◌<◌, ◌^◌, List, [], length, map, set, get_or, IfOk, OnErr};
+ghost use Rattle.std.specs.Prelude.{◌≡◌, ℕ, ◌+◌, ◌-◌, ◌<◌, ◌≤◌, ◌^◌, List, [], length, map, set, get_or, IfOk, OnErr};
 ghost use Rattle.ijson_table.specs.Crowd.{home_of};
 ghost use Rattle.ijson_table.specs.Slots.{displacement};
 ghost use Rattle.ijson_table.specs.Store.{keys_of};
