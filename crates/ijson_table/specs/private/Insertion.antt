@@ -43,10 +43,3 @@ pub record Stands (hashes : List ℕ) (slots : List Slot) (position hash : ℕ) 
 pub record IsTableOf (hashes : List ℕ) (slots : List Slot) : Type 0 where
   pub table : IsTable hashes (positions slots)
   pub hashes_are : HaveHashes (length slots) hashes slots
-
--- These are the hashes of an index's key and of the last one's, which is another index.
-pub record EndsWith (hashes : List ℕ) (position hash last last_hash : ℕ) : Type 0 where
-  pub within : position < last
-  pub is_last : last + 1 ≡ length hashes
-  pub hash_is : hash ≡ get_or hashes position 0
-  pub last_hash_is : last_hash ≡ get_or hashes last 0
