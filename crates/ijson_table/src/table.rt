@@ -227,9 +227,8 @@ impl<V: Drop, H: KeyHash> Table<V, H> {
         ensures pairs { self.new.store.pairs ≡ with_key self.old.store.pairs index key }
         ensures capacity { self.new.store.capacity ≡ self.old.store.capacity }
     {
-        let was = self.hash_at(index);
-        let hash = H::hash(key.as_str());
-        self.slots.rehash_one(index, was, hash);
+        self.slots
+            .rehash_one::<V, H>(&self.pairs, index, H::hash(key.as_str()));
         mem::replace(&mut self.pairs[index].0, key)
     }
 
@@ -379,14 +378,6 @@ impl<V, H: KeyHash> Table<V, H> {
         }
         Ok(slots)
     }
-
-    /// Returns the hash of the key at an index.
-    fn hash_at(&self, index: usize) -> u64
-        requires { index < length self.now.store.pairs }
-        ensures { result ≡ get_or (map H.hash_of (keys_of self.now.store.pairs)) index 0 }
-    {
-        H::hash(self.pairs[index].0.as_str())
-    }
 }
 
 /// Formats the entries as a map, in order.
@@ -493,20 +484,15 @@ impl<V: Drop, H: KeyHash> PairStore<V> for Table<V, H> {
     }
 
     fn swap_out(&mut self, index: usize) -> (IString, V) {
-        let last = self.pairs.len() - 1;
-        if index == last {
+        if index + 1 == self.pairs.len() {
             return self.shift_out(index);
         }
-        let hash = self.hash_at(index);
-        let last_hash = self.hash_at(last);
-        self.slots.swap_remove(index, hash, last, last_hash);
+        self.slots.swap_remove::<V, H>(&self.pairs, index);
         self.pairs.swap_remove(index)
     }
 
     fn shift_out(&mut self, index: usize) -> (IString, V) {
-        let last = self.pairs.len() - 1;
-        let hash = self.hash_at(index);
-        self.slots.shift_remove(index, hash, last);
+        self.slots.shift_remove::<V, H>(&self.pairs, index);
         self.pairs.remove(index)
     }
 

@@ -11,11 +11,11 @@ use Rattle.ijson_table.specs.Store.{position_of, IsDistinct}
 use Rattle.ijson_table.specs.declared.index.probe.Probed.{Probed}
 use Rattle.ijson_table.specs.declared.index.probe.Probed.TheVariants.{Found, Vacant, Full}
 use Rattle.ijson_table.specs.private.Holds.{MayStand}
-use Rattle.ijson_table.specs.private.Lookup.{found_at, LookUpEnds}
+use Rattle.ijson_table.specs.private.Lookup.{found_at, is_key, LookUpEnds}
 use Rattle.ijson_table.specs.private.Probe.{onward, Passed, PassedOthers, EndsAt, Ends}
 use Rattle.ijson_table.proofs.arithmetic.Circular.{onward-below}
 use Rattle.ijson_table.proofs.pairs.KeyPositions.{position-none, position-distinct}
-use Rattle.ijson_table.proofs.probing.KeyTests.{Seeks}
+use Rattle.ijson_table.proofs.probing.KeyTests.{is_key-true, is_key-false}
 use Rattle.ijson_table.proofs.probing.LookCount.{bounded_there, bounded_all}
 use Rattle.ijson_table.proofs.shifting.Insertion.{may_end, not_round}
 use Rattle.ijson_table.proofs.shifting.Removal.{displacement-as}
@@ -66,10 +66,12 @@ module _ (hashes : List ℕ) (slots : List (Option ℕ)) (t : IsTable hashes slo
             (λ x. displacement longer slots (onward n x m)) home,
       )))
 
-module _ (hash : List ℕ → ℕ) (keys : List (List ℕ)) (slots : List (Option ℕ)) (t : IsTable (map hash keys) slots) (key : List ℕ)
-    {seeks : ℕ → Bool} (tells : Seeks keys key seeks) where
+module _ (hash : List ℕ → ℕ) (keys : List (List ℕ)) (slots : List (Option ℕ)) (t : IsTable (map hash keys) slots) (key : List ℕ) where
   abbrev hashes : List ℕ
   hashes = map hash keys
+
+  abbrev seeks : ℕ → Bool
+  seeks = is_key keys key
 
   abbrev home : ℕ
   home = home_of hash (length slots) key
@@ -82,8 +84,7 @@ module _ (hash : List ℕ → ℕ) (keys : List (List ℕ)) (slots : List (Optio
   other_keys : (m : ℕ) → 0 < length slots → m ≤ length slots → PassedOthers slots seeks home m → (j i : ℕ) → j < m
       → resident slots (onward (length slots) home j) ≡ Some i → get_or keys i [] ≢ key
   other_keys m some lm others j i lj there =
-      tells.no_it_is i (listed (onward (length slots) home j) i
-      (onward-below (length slots) home j (mod-lt (hash key) some) (omega arith)) there) (others j i lj there)
+      is_key-false keys key i (others j i lj there)
 
   -- the index that it found, or that the key is missing
   pub look_up_ends : IsDistinct keys → 0 < length slots → (end : Probed) (looks : ℕ)
@@ -97,7 +98,7 @@ module _ (hash : List ℕ → ℕ) (keys : List (List ℕ)) (slots : List (Optio
         at.there,
       ) in
       let li : i < length keys = listed p i lp ends.2 in
-      position-distinct keys key i distinct li (tells.yes_it_is i li ends.3)
+      position-distinct keys key i distinct li (is_key-true keys key i ends.3)
   look_up_ends distinct some (Vacant p) looks ends =
       let at : EndsAt slots (displacement hashes slots) home seeks looks p ends.0 = ends.1 in
       let near : displacement hashes slots (onward (length slots) home ends.0) ≤ ends.0 =

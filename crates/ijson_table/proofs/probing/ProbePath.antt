@@ -1,6 +1,6 @@
 -- The walk of a lookup.
 use Rattle.std.proofs.Common.{◌≡◌, ◌≢◌, ℕ, zero, suc, ◌+◌, ◌-◌, ◌%◌, ◌<◌, ◌≤◌, ◌⊎◌, inl, inr, arith, List, [], length, map, get_or, Option}
-use Rattle.std.proofs.Common.{Some, None, refl, ap, ◌∙◌}
+use Rattle.std.proofs.Common.{Some, None, refl, sym, ap, subst, ◌∙◌}
 use Rattle.std.proofs.lemmas.Bool.Decides.{nat_tests}
 use Rattle.std.proofs.lemmas.List.{get_or-map, length-map}
 use Rattle.std.proofs.Math.Nat.{mod-lt}
@@ -63,6 +63,27 @@ module _ (hashes : List ℕ) (slots : List (Option ℕ)) where
       let same : onward (length slots) e (k + 1) ≡ onward (length slots) e (suc k) = ap (onward (length slots) e) (omega arith) in
       omega (arith, ordered (onward (length slots) e k) here, ap (displacement hashes slots) next, ap (displacement hashes slots) same)
 
+-- If a probe from the home slot of an index in a slot ends at an empty slot, at a resident closer to its home slot, or
+-- after all slots, it passed the index.
+pub passed_by : (hashes : List ℕ) (slots : List (Option ℕ)) → IsOrdered hashes slots → (i p m : ℕ) → p < length slots
+    → resident slots p ≡ Some i
+    → (length slots ≤ m) ⊎ (displacement hashes slots (onward (length slots) (home_at (length slots) hashes i) m) ≤ m)
+    → (j : ℕ) × (j < m) × (resident slots (onward (length slots) (home_at (length slots) hashes i) j) ≡ Some i)
+unfolding home_at
+passed_by hashes slots ordered i p m lp there ended =
+    let n : ℕ = length slots in
+    let h : ℕ = home_at n hashes i in
+    let lh : h < n = mod-lt (get_or hashes i 0) (omega (arith, lp)) in
+    let d : ℕ = distance n h p in
+    let far : d + 1 ≤ displacement hashes slots p = omega (arith, displacement-some hashes slots p i there) in
+    elim (cases_lt d m) [
+      | inl early ↦ (d, early, ap (resident slots) (onward-distance n h p lh lp) ∙ there)
+      | inr late ↦ absurd (elim ended [
+        | inl all ↦ omega (arith, distance-below n h p lh lp)
+        | inr stop ↦ omega (arith, on_the_way hashes slots ordered h p lh lp far (d - m) m (omega arith))
+      ])
+    ]
+
 -- the invariant at one index
 pub placed_at : (hashes : List ℕ) (slots : List (Option ℕ)) → IsTable hashes slots → (i : ℕ) → i < length hashes
     → (p : ℕ) × (p < length slots) × (resident slots p ≡ Some i)
@@ -98,21 +119,9 @@ pub absent : (hash : List ℕ → ℕ) (keys : List (List ℕ)) (slots : List (O
     → (length slots ≤ m) ⊎ (displacement (map hash keys) slots (onward (length slots) (home_of hash (length slots) key) m) ≤ m)
     → (i : ℕ) → i < length keys → get_or keys i [] ≢ key
 absent hash keys slots t key m some passed others ended i li same =
-    let hashes : List ℕ = map hash keys in
     let n : ℕ = length slots in
-    let h : ℕ = home_of hash (length slots) key in
-    let lh : h < n = mod-lt (hash key) some in
-    let spot = placed_at hashes slots t i (omega (arith, li, length-map keys hash)) in
-    let p : ℕ = spot.0 in
-    let d : ℕ = distance n h p in
-    let below : d < n = distance-below n h p lh spot.1 in
-    let home : home_at n hashes i ≡ h = home-key hash n keys i li ∙ ap (home_of hash n) same in
-    let far : d + 1 ≤ displacement hashes slots p = omega
-    (arith, displacement-some hashes slots p i spot.2, ap (λ x. distance n x p) home) in
-    elim (cases_lt d m) [
-      | inl early ↦ others d i early (ap (resident slots) (onward-distance n h p lh spot.1) ∙ spot.2) same
-      | inr late ↦ elim ended [
-        | inl all ↦ omega arith
-        | inr stop ↦ omega (arith, on_the_way hashes slots t.ordered h p lh spot.1 far (d - m) m (omega arith))
-      ]
-    ]
+    let spot = placed_at (map hash keys) slots t i (omega (arith, li, length-map keys hash)) in
+    let home : home_of hash n key ≡ home_at n (map hash keys) i = sym (home-key hash n keys i li ∙ ap (home_of hash n) same) in
+    let by = passed_by (map hash keys) slots t.ordered i spot.0 m spot.1 spot.2
+    (subst (λ h. (n ≤ m) ⊎ (displacement (map hash keys) slots (onward n h m) ≤ m)) home ended) in
+    others by.0 i by.1 (ap (λ h. resident slots (onward n h by.0)) home ∙ by.2) same

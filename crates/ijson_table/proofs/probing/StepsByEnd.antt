@@ -1,14 +1,13 @@
 -- The steps of a probe for a key and of its insertion there, as they follow from the slots at which they end.
-use Rattle.std.proofs.Common.{◌≡◌, ℕ, ◌+◌, ◌%◌, ◌<◌, ◌≤◌, Bool, List, length, Option, None, arith, ap, sym, subst, ◌∙◌, inl, inr}
+use Rattle.std.proofs.Common.{◌≡◌, ℕ, ◌+◌, ◌<◌, ◌≤◌, Bool, List, length, map, Option, None, arith, ap, sym, subst, ◌∙◌, inl, inr}
 use Rattle.std.proofs.lemmas.Bool.{cases_lt}
 use Rattle.std.proofs.lemmas.Nat.{mod_below}
 use Rattle.ijson_table.specs.declared.index.probe.Probed.TheVariants.{Found, Vacant}
-use Rattle.ijson_table.specs.Crowd.{distance}
+use Rattle.ijson_table.specs.Crowd.{distance, home_of}
 use Rattle.ijson_table.specs.Slots.{displacement, resident}
 use Rattle.ijson_table.specs.private.Changes.{changes}
 use Rattle.ijson_table.specs.private.CountedSteps.{CountsSteps, Walks}
-use Rattle.ijson_table.specs.private.HashIndex.{HashIndex}
-use Rattle.ijson_table.specs.private.Lookup.{is_hashed_key}
+use Rattle.ijson_table.specs.private.Lookup.{is_key}
 use Rattle.ijson_table.specs.private.Probe.{onward, Ends, EndsAt}
 use Rattle.ijson_table.proofs.arithmetic.Circular.{distance-onward, distance-rest, onward-below, onward-distance}
 use Rattle.ijson_table.proofs.probing.ProbePath.{displacement-none}
@@ -56,37 +55,36 @@ module _ (slots : List (Option ℕ)) (displacements : ℕ → ℕ) (h : ℕ) (se
         | inr more ↦ omega (arith, far, way, distance-rest n h m last home there e.within more)
       ]
 
-module _ (hash : List ℕ → ℕ) (keys : List (List ℕ)) (index : HashIndex) (some : 0 < length index.slots) where
+module _ (hash : List ℕ → ℕ) (keys : List (List ℕ)) (slots : List (Option ℕ)) (some : 0 < length slots) (key : List ℕ) where
+  abbrev home : ℕ
+  home = home_of hash (length slots) key
+
   -- A new key that is inserted at the end of its probe: the last slot written determines the steps.
-  pub counts_new : (h : ℕ) (key : List ℕ) (looks p last far steps : ℕ) (new : HashIndex) → h ≡ hash key
-      → Walks index keys h key looks (Vacant p) → last < length index.slots → resident index.slots last ≡ None
-      → changes index.slots new.slots ≤ distance (length index.slots) p last + 1
-      → far ≡ distance (length index.slots) (h % length index.slots) last
-      → far + 2 ≤ steps → CountsSteps hash keys key index new steps
-  counts_new h key looks p last far steps new is walks there empty few away_is enough =
-      let n = length index.slots in
-      let home = mod_below h n some in
-      let ended = ended_vacant index.slots (displacement index.hashes index.slots) (h % n) (is_hashed_key index.hashes keys h key) home
-      looks p walks in
-      let way = through index.slots (displacement index.hashes index.slots) (h % n) (is_hashed_key index.hashes keys h key) home
-      looks p last walks there (displacement-none index.hashes index.slots last empty) in
+  pub counts_new : (looks p last far steps : ℕ) (new : List (Option ℕ))
+      → Walks hash keys slots key looks (Vacant p) → last < length slots → resident slots last ≡ None
+      → changes slots new ≤ distance (length slots) p last + 1 → far ≡ distance (length slots) home last
+      → far + 2 ≤ steps → CountsSteps hash keys key slots new steps
+  counts_new looks p last far steps new walks there empty few away_is enough =
+      let within = mod_below (hash key) (length slots) some in
+      let ended = ended_vacant slots (displacement (map hash keys) slots) home (is_key keys key) within looks p walks in
+      let way = through slots (displacement (map hash keys) slots) home (is_key keys key) within looks p last walks there
+      (displacement-none (map hash keys) slots last empty) in
       record {
         looks = looks;
         end = Vacant p;
-        walked = subst (λ x. Walks index keys x key looks (Vacant p)) is walks;
+        walked = walks;
         counted = omega (arith, ended.looked, way, few, away_is, enough);
       }
 
   -- A key that is found: the slot of its pair determines the steps.
-  pub counts_found : (h : ℕ) (key : List ℕ) (looks at p far steps : ℕ) → h ≡ hash key → Walks index keys h key looks (Found at p)
-      → far ≡ distance (length index.slots) (h % length index.slots) p → far + 1 ≤ steps → CountsSteps hash keys key index index steps
-  counts_found h key looks at p far steps is walks away_is enough =
-      let n = length index.slots in
-      let ended = ended_found index.slots (displacement index.hashes index.slots) (h % n) (is_hashed_key index.hashes keys h key)
-      (mod_below h n some) looks at p walks in
+  pub counts_found : (looks at p far steps : ℕ) → Walks hash keys slots key looks (Found at p)
+      → far ≡ distance (length slots) home p → far + 1 ≤ steps → CountsSteps hash keys key slots slots steps
+  counts_found looks at p far steps walks away_is enough =
+      let ended = ended_found slots (displacement (map hash keys) slots) home (is_key keys key) (mod_below (hash key) (length slots) some)
+      looks at p walks in
       record {
         looks = looks;
         end = Found at p;
-        walked = subst (λ x. Walks index keys x key looks (Found at p)) is walks;
-        counted = omega (arith, ended.looked, changes-none index.slots, away_is, enough);
+        walked = walks;
+        counted = omega (arith, ended.looked, changes-none slots, away_is, enough);
       }

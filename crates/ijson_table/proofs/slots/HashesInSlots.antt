@@ -111,7 +111,13 @@ module _ (n : ℕ) (hashes : List ℕ) where
       ])
 
 module _ (hashes : List ℕ) where
-  -- so are all slots
+  -- all slots have their hashes after one is written
+  pub hashes-written : (slots : List Slot) (p : ℕ) (slot : Slot) → HasHash (length slots) hashes slot → HaveHashes (length slots) hashes slots
+      → HaveHashes (length (set slots p slot)) hashes (set slots p slot)
+  hashes-written slots p slot has have = subst (λ n. HaveHashes n hashes (set slots p slot)) (sym (length-set slots p slot))
+      (hashes-set (length slots) hashes slots p slot has have)
+
+  -- all slots are displaced by the stored hashes as by the keys
   pub displacement-in : (slots : List Slot) (p : ℕ) → HaveHashes (length slots) hashes slots → p < length slots
       → displacement_in slots p ≡ displacement hashes (positions slots) p
   unfolding displacement_in displacement

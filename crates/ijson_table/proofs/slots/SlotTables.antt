@@ -7,7 +7,7 @@ use Rattle.std.proofs.lemmas.List.Elements.{All-from_get_or}
 use Rattle.std.proofs.Math.ListN.{get_or-append}
 use Rattle.std.proofs.Math.Seq.{get_or-append_seam}
 use Rattle.ijson_table.specs.declared.slot.Slot.{Slot}
-use Rattle.ijson_table.specs.Slots.{resident, times, below}
+use Rattle.ijson_table.specs.Slots.{times, below, IsTable}
 use Rattle.ijson_table.specs.private.Holds.{with_one, HasEmpty, Holds}
 use Rattle.ijson_table.specs.private.Insertion.{Accepts, IsTableOf}
 use Rattle.ijson_table.specs.private.KeptHash.{kept}
@@ -48,16 +48,13 @@ pub each_empty : (slots : List Slot) → IsTableOf [] slots → All (λ slot. po
 each_empty slots are = All-from_get_or (λ slot. position_in slot ≡ None) slots blank
     (λ p lp. nothing_there slots are p lp (position_in (get_or slots p blank)) refl)
 
+-- a slot is empty if there are more slots than hashes
+pub left_empty : (hashes : List ℕ) (slots : List (Option ℕ)) → IsTable hashes slots → length hashes < length slots → HasEmpty slots
+left_empty hashes slots table room = some_empty slots (length hashes + 1) (length hashes) (λ i. grind (arith, nat_tests, table.placed i))
+    (omega arith) (grind (arith, nat_tests, table.placed (length hashes))) (omega (arith, room))
+
 module _ (hashes : List ℕ) (slots : List Slot) (are : IsTableOf hashes slots) (position hash : ℕ) (next : position ≡ length hashes)
     (room : position < length slots) where
-  -- a slot is empty if there are more slots than hashes
-  some_slot_empty : HasEmpty (positions slots)
-  some_slot_empty =
-      let few : (i : ℕ) → times i (positions slots) ≤ below (length hashes + 1) i = λ i. grind (arith, nat_tests, are.table.placed i) in
-      let none : times (length hashes) (positions slots) ≡ 0 = grind (arith, nat_tests, are.table.placed (length hashes)) in
-      some_empty (positions slots) (length hashes + 1) (length hashes) few (omega arith) none
-      (omega (arith, next, room, positions-length slots))
-
   -- one more index may be inserted into them
   pub accepts : (part : ℕ) → part ≡ kept (length slots) hash → length slots < 2 ^ 64 → Accepts (hashes ++ hash ∷ []) slots position part
   accepts part is limited = record {
@@ -66,7 +63,7 @@ module _ (hashes : List ℕ) (slots : List Slot) (are : IsTableOf hashes slots) 
     hashes_are = hashes-as (length slots) hashes (hashes ++ hash ∷ []) slots are.hashes_are
         (λ p i lp e. get_or-append hashes (hash ∷ []) 0 i (in_list hashes (positions slots) are.table p i lp e));
     ordered = (holds_pushed hashes hash (positions slots) are.table).ordered;
-    empty = some_slot_empty;
+    empty = left_empty hashes (positions slots) are.table (omega (arith, next, room, positions-length slots));
   }
 
   -- and was

@@ -1,18 +1,21 @@
 //! Moves of residents by their hashes: removal with backward shift, and a new hash.
 
-ghost use Rattle.std.specs.Prelude.{◌≡◌, ℕ, ◌+◌, ◌<◌, ◌≤◌, ◌%◌, ◌^◌, List, length, get_or, map, set, Some, None};
-ghost use Rattle.ijson_table.specs.Slots.{below, resident, times, IsOrdered};
+ghost use Rattle.std.specs.Prelude.{◌≡◌, ℕ, ◌+◌, ◌<◌, ◌%◌, ◌^◌, List, length, map, set, Some};
+ghost use Rattle.ijson_table.specs.Slots.{below, resident};
+ghost use Rattle.ijson_table.specs.Store.{keys_of};
 ghost use Rattle.ijson_table.specs.private.Closing.{closed};
-ghost use Rattle.ijson_table.specs.private.Holds.{Holds, HasEmpty, HasGap};
-ghost use Rattle.ijson_table.specs.private.Insertion.{EndsWith, IsTableOf, Stands};
+ghost use Rattle.ijson_table.specs.private.Holds.{Holds, HasEmpty};
+ghost use Rattle.ijson_table.specs.private.Insertion.{IsTableOf, Stands};
 ghost use Rattle.ijson_table.specs.private.SlotHashes.{displacement_in, positions, HaveHashes};
 ghost use Rattle.ijson_table.specs.private.Probe.{IsVacancy};
 ghost use Rattle.std.specs.List.{remove, swap_remove as swapped_out};
 
+use crate::hash::KeyHash;
 use crate::index::probe::{ProbeTarget, Probed, next_slot, probe};
 use crate::index::slots::Slots;
 use crate::slot::{Modulus, Seen, Slot, distance_between};
 use ijson_number::Looks;
+use ijson_string::IString;
 
 /// A probe that compares no keys.
 ///
@@ -63,12 +66,12 @@ fn vacancy(slots: &Slots, modulus: Modulus, hash: u64) -> usize
 }
 
 /// Returns the slot of an index, whose key has this hash.
-fn slot_of(slots: &Slots, position: usize, hash: u64) -> usize
-    requires { (hashes : List ℕ) × Stands hashes slots.now position hash }
+fn slot_of(slots: &Slots, modulus: Modulus, position: usize, hash: u64) -> usize
+    requires counted { modulus.count ≡ length slots.now }
+    requires stands { (hashes : List ℕ) × Stands hashes slots.now position hash }
     ensures within { result < length slots.now }
     ensures there { resident (positions slots.now) result ≡ Some position }
 {
-    let modulus = Modulus::new(slots.len());
     let resident = HashProbe {
         slots,
         modulus,
@@ -81,21 +84,21 @@ fn slot_of(slots: &Slots, position: usize, hash: u64) -> usize
     }
 }
 
-/// Shifts residents after a gap back by one slot, up to an empty slot or a resident at its home slot.
-fn shift_back(slots: &mut Slots, from: usize)
-    ghost hashes: { List ℕ }
-    requires gap { HasGap hashes (positions slots.old) from }
-    requires hashes { HaveHashes (length slots.old) hashes slots.old }
-    ensures ordered { IsOrdered hashes (positions slots.new) }
-    ensures placed { (i : ℕ) → times i (positions slots.new) ≡ times i (positions slots.old) }
-    ensures hashes { HaveHashes (length slots.old) hashes slots.new }
+/// Removes an index from the slots of a table of these pairs.
+///
+/// Residents after its slot are shifted back by one slot, up to an empty slot or a resident at its home slot.
+fn take_out<V, H: KeyHash>(slots: &mut Slots, pairs: &[(IString, V)], position: usize)
+    requires table { IsTableOf (map H.hash_of (keys_of pairs.now)) slots.old }
+    requires within { position < length pairs.now }
+    ensures holds { Holds (map H.hash_of (keys_of pairs.now)) (below (length pairs.now)) (Some position) (positions slots.new) }
+    ensures hashes { HaveHashes (length slots.new) (map H.hash_of (keys_of pairs.now)) slots.new }
     ensures count { length slots.new ≡ length slots.old }
 {
-    let count = slots.len();
-    let modulus = Modulus::new(count);
-    let mut gap = from;
+    let modulus = Modulus::new(slots.len());
+    let mut gap = slot_of(slots, modulus, position, H::hash(pairs[position].0.as_str()));
+    slots.set(gap, Slot::EMPTY);
     loop {
-        let next = next_slot(count, gap);
+        let next = next_slot(modulus.count, gap);
         let behind = slots.at(next);
         let home = modulus.home_of_hash(behind.hash);
         if behind.is_empty() || distance_between(modulus.count, home, next) == 0 {
@@ -105,21 +108,6 @@ fn shift_back(slots: &mut Slots, from: usize)
         slots.set(next, Slot::EMPTY);
         gap = next;
     }
-}
-
-/// Removes an index, whose key has this hash, from the slots of a table.
-fn take_out(slots: &mut Slots, position: usize, hash: u64)
-    ghost hashes: { List ℕ }
-    requires table { IsTableOf hashes slots.old }
-    requires within { position < length hashes }
-    requires hash { hash ≡ get_or hashes position 0 }
-    ensures holds { Holds hashes (below (length hashes)) (Some position) (positions slots.new) }
-    ensures hashes { HaveHashes (length slots.old) hashes slots.new }
-    ensures count { length slots.new ≡ length slots.old }
-{
-    let slot = slot_of(slots, position, hash);
-    slots.set(slot, Slot::EMPTY);
-    shift_back(slots, slot);
 }
 
 /// Decrements each index after `gone`.
@@ -132,50 +120,45 @@ fn close_up(slots: &mut Slots, gone: usize)
     }
 }
 
+/// Each is called before the pairs are changed.
 impl Slots {
-    /// Removes index `position` and gives its number to `last`, a different index.
-    ///
-    /// The hashes are those of their keys.
-    pub fn swap_remove(&mut self, position: usize, hash: u64, last: usize, last_hash: u64)
-        ghost hashes: { List ℕ }
-        requires table { IsTableOf hashes self.old }
-        requires ends { EndsWith hashes position hash last last_hash }
-        ensures table { IsTableOf (swapped_out hashes position 0) self.new }
+    /// Removes index `position` and gives its number to the last one.
+    pub fn swap_remove<V, H: KeyHash>(&mut self, pairs: &[(IString, V)], position: usize)
+        requires table { IsTableOf (map H.hash_of (keys_of pairs.now)) self.old }
+        requires within { position + 1 < length pairs.now }
+        ensures table { IsTableOf (swapped_out (map H.hash_of (keys_of pairs.now)) position 0) self.new }
         ensures count { length self.new ≡ length self.old }
     {
-        take_out(self, position, hash);
-        let there = slot_of(self, last, last_hash);
+        take_out::<V, H>(self, pairs, position);
+        let last = pairs.len() - 1;
+        let modulus = Modulus::new(self.len());
+        let there = slot_of(self, modulus, last, H::hash(pairs[last].0.as_str()));
         let moved = self.at(there).hash;
         self.set(there, Slot::of(position, moved));
     }
 
-    /// Gives index `position`, whose key has the hash `was`, another hash.
-    pub fn rehash_one(&mut self, position: usize, was: u64, hash: u64)
-        ghost hashes: { List ℕ }
-        requires table { IsTableOf hashes self.old }
-        requires within { position < length hashes }
-        requires was { was ≡ get_or hashes position 0 }
-        ensures table { IsTableOf (set hashes position hash) self.new }
+    /// Gives the key of index `position` another hash.
+    pub fn rehash_one<V, H: KeyHash>(&mut self, pairs: &[(IString, V)], position: usize, hash: u64)
+        requires table { IsTableOf (map H.hash_of (keys_of pairs.now)) self.old }
+        requires within { position < length pairs.now }
+        ensures table { IsTableOf (set (map H.hash_of (keys_of pairs.now)) position hash) self.new }
         ensures count { length self.new ≡ length self.old }
     {
-        take_out(self, position, was);
+        take_out::<V, H>(self, pairs, position);
         let modulus = Modulus::new(self.len());
         let slot = vacancy(self, modulus, hash);
         self.shift_forward(slot, position, modulus.kept_hash(hash));
     }
 
-    /// Removes index `position`, whose key has this hash, and decrements each later index.
-    pub fn shift_remove(&mut self, position: usize, hash: u64, last: usize)
-        ghost hashes: { List ℕ }
-        requires table { IsTableOf hashes self.old }
-        requires within { position ≤ last }
-        requires last { last + 1 ≡ length hashes }
-        requires hash { hash ≡ get_or hashes position 0 }
-        ensures table { IsTableOf (remove hashes position) self.new }
+    /// Removes index `position` and decrements each later one.
+    pub fn shift_remove<V, H: KeyHash>(&mut self, pairs: &[(IString, V)], position: usize)
+        requires table { IsTableOf (map H.hash_of (keys_of pairs.now)) self.old }
+        requires within { position < length pairs.now }
+        ensures table { IsTableOf (remove (map H.hash_of (keys_of pairs.now)) position) self.new }
         ensures count { length self.new ≡ length self.old }
     {
-        take_out(self, position, hash);
-        if position < last {
+        take_out::<V, H>(self, pairs, position);
+        if position + 1 < pairs.len() {
             close_up(self, position);
         }
     }

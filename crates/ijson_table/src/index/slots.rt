@@ -1,6 +1,6 @@
 //! `Slots`: the slots of a table, in the smallest representation that fits.
 
-ghost use Rattle.std.specs.Prelude.{◌≡◌, ℕ, ◌+◌, ◌-◌, ◌<◌, ◌^◌, List, [], length, map, set, get_or, IfOk, OnErr};
+ghost use Rattle.std.specs.Prelude.{◌≡◌, ℕ, ◌+◌, ◌-◌, ◌<◌, ◌≤◌, ◌^◌, List, [], length, map, set, get_or, IfOk, OnErr};
 ghost use Rattle.ijson_table.specs.Crowd.{home_of};
 ghost use Rattle.ijson_table.specs.Slots.{displacement};
 ghost use Rattle.ijson_table.specs.Store.{keys_of};
@@ -217,10 +217,10 @@ impl Slots {
     /// `hash` is the part of the hash of its key that the slots keep. The shift ends at the first empty slot from there on,
     /// which is the last slot written and is returned. The representation is tested once.
     pub fn shift_forward(&mut self, from: usize, position: usize, hash: u64) -> usize
-        ghost hashes: { List ℕ }
-        requires may { MayPut hashes self.old position hash from }
+        requires may { (hashes : List ℕ) × MayPut hashes self.old position hash from }
         requires narrow { MayHold (length self.old) position hash }
-        ensures { IsPut hashes self.old position from result self.new }
+        ensures { (hashes : List ℕ) → MayPut hashes self.old position hash from
+            → IsPut hashes self.old position from result self.new }
     {
         match &mut self.stored {
             Stored::Few(few) => shift_forward(

@@ -62,7 +62,7 @@ module _ (hashes : List ℕ) (old : List Slot) (position from : ℕ) (slots : Li
         holds = subst (Holds hashes want None) (sym (positions-put slots slot entry s.0 s.1))
             (subst (λ o. Holds hashes want o (set (positions slots) slot (Some s.0))) (position-at slots slot None here empty)
             (put_down hashes want (positions slots) s.0 slot s.2.may.within s.2.held s.2.may));
-        hashes_are = hashes-set hashes slots slot entry way.has_hash way.have_hashes;
+        hashes_are = hashes-set n hashes slots slot entry way.has_hash way.have_hashes;
         count = length-set slots slot entry ∙ way.size;
         within = within;
         empty = sym (way.left slot within (omega arith)) ∙ position-at slots slot None here empty;
@@ -101,8 +101,8 @@ module _ (hashes : List ℕ) (old : List Slot) (position from : ℕ) (slots : Li
               (sym (positions-put slots slot entry i.0 i.1)) (shift_more hashes want i.0 slot (distance n from slot) next (positions slots) i.2 stood))),
         );
         changes = omega (arith, more, one_more (positions old) slots slot (distance n from slot) entry way.changes);
-        has_hash = hashes-at hashes slots slot way.have_hashes here;
-        have_hashes = hashes-set hashes slots slot entry way.has_hash way.have_hashes;
+        has_hash = hashes-at n hashes slots slot way.have_hashes here;
+        have_hashes = hashes-set n hashes slots slot entry way.has_hash way.have_hashes;
         passed = passed_more (positions old) n from slot (distance n from (after n slot)) (sym (positions-length old)) way.starts within more
             way.passed (λ none. let bad : ◌≡◌ {A = Option ℕ} (Some next) None = sym stood ∙ (way.left slot within (omega arith) ∙ none) in cc);
         left = λ p lp away. ap (λ ps. resident ps p) (positions-set slots slot entry)
@@ -143,7 +143,7 @@ loop-was-init g c = record {
           },
         );
         changes = omega (arith, changes-none slots);
-        has_hash = has_own_hash hashes c.of.result c.args.position c.of.ensures.position (c.of.ensures.hash ∙ accepts.hash_is);
+        has_hash = has_own_hash (length stored) hashes c.of.result c.args.position c.of.ensures.position (c.of.ensures.hash ∙ accepts.hash_is);
         have_hashes = accepts.hashes_are;
         passed = λ j lj. absurd (omega (arith, lj, none));
         left = λ p lp away. refl;

@@ -16,8 +16,8 @@ pub record IsOnTheWay (hashes : List ℕ) (old : List Slot) (position from : ℕ
   pub shifting : (i : ℕ) × (position_in entry ≡ Some i)
       × Shifting hashes (with_one (positions old) position) i slot (distance (length old) from slot) (positions slots)
   pub changes : changes (positions old) (positions slots) ≤ distance (length old) from slot
-  pub has_hash : HasHash hashes entry
-  pub have_hashes : HaveHashes hashes slots
+  pub has_hash : HasHash (length old) hashes entry
+  pub have_hashes : HaveHashes (length old) hashes slots
   pub passed : AreFull (positions old) from (distance (length old) from slot)
   pub left : (p : ℕ) → p < length old → distance (length old) from slot ≤ distance (length old) from p
       → resident (positions slots) p ≡ resident (positions old) p

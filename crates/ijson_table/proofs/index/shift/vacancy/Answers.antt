@@ -25,7 +25,7 @@ no_other slots hash looks e Full ends is =
 
 pub unreachable-requires : goal.unreachable-requires
 unreachable-requires c = no_other c.args.slots.now c.args.hash
-    (c.probe.new.looks - c.new.result) c.requires c.probe.result
+    (c.probe.new.looks - c.new.result) c.requires.empty c.probe.result
     (subst (λ h. Ends (positions c.args.slots.now) (displacement_in c.args.slots.now) h (λ i. false) (c.probe.new.looks - c.new.result)
-    c.probe.result) (c.home_of_hash-home.ensures.value ∙ ap (λ n. c.args.hash % n) (c.new-modulus.ensures ∙ c.len.ensures))
+    c.probe.result) (c.home_of_hash-home.ensures.value ∙ ap (λ n. c.args.hash % n) c.requires.counted)
     c.probe.ensures.ends) c.in-Found.is

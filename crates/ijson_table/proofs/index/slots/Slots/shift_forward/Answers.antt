@@ -48,5 +48,10 @@ put g c =
           (map-id left ∙ (sym same ∙ sym (ap (λ (l : Inside). stored_slots l.stored) w.self-inside-is))) (sym w.result-is) may
     ]
 
+pub shift_forward-requires-in-Wide-clause-may : goal.shift_forward-requires-in-Wide-clause-may
+shift_forward-requires-in-Wide-clause-may g c = (g.hashes, subst (λ ps. MayPut g.hashes ps c.args.position c.args.hash c.args.from)
+    (sym (map-id c.deref_mut-in-Wide.result.now ∙ (c.deref_mut-in-Wide.ensures.value ∙ (ap stored_slots (sym c.in-Wide.is) ∙ c.self.view_is))))
+    c.requires.0)
+
 pub returns : goal.returns
 returns g c = put g c
