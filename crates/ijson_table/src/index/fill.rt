@@ -40,14 +40,13 @@ fn past_end(sorted: &[Slot], modulus: Modulus) -> usize
 ///
 /// Linear in the number of entries, whatever their home slots.
 fn fill(slots: &mut Slots, sorted: &[Slot], modulus: Modulus)
-    ghost hashes: { List ℕ }
     requires counted { modulus.count ≡ length slots.old }
     requires few { length slots.old ≤ 2 ^ 60 }
     requires empty { IsTableOf [] slots.old }
-    requires room { length hashes ≤ length slots.old }
-    requires entries { AreEntries modulus.count hashes sorted.now }
+    requires room { length sorted.now ≤ length slots.old }
+    requires entries { (hashes : List ℕ) × AreEntries modulus.count hashes sorted.now }
     requires sorted { IsSortedBy (home_before modulus.count) sorted.now }
-    ensures table { IsTableOf hashes slots.new }
+    ensures table { (hashes : List ℕ) → AreEntries modulus.count hashes sorted.now → IsTableOf hashes slots.new }
     ensures count { length slots.new ≡ length slots.old }
 {
     let mut next = past_end(sorted, modulus);

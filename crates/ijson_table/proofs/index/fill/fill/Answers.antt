@@ -12,18 +12,18 @@ use Rattle.ijson_table.proofs.index.fill.fill.Goals as goal
 use Rattle.ijson_table.proofs.index.fill.fill.Goals.{Joined-spot-modulus, then-spot-modulus, else-spot-modulus}
 
 pub loop-index-init : goal.loop-index-init
-loop-index-init g c = record {
+loop-index-init c = record {
   next = c.past_end-next.ensures;
-  filled = filled_none c.args.modulus.count g.hashes c.args.sorted.now c.requires.1.1.1.1.0 (omega (arith, c.requires.1.1.1.0, c.requires.0))
-      c.requires.1.1.1.1.1 c.args.slots.now (sym c.requires.0) (each_empty c.args.slots.now c.requires.1.1.0);
+  filled = filled_none c.args.modulus.count c.args.sorted.now c.args.slots.now (sym c.requires.counted)
+      (each_empty c.args.slots.now c.requires.empty);
 }
 
 -- the next entry is written to its slot
-place_is : (g : _) (c : Joined-spot-modulus g)
+place_is : (c : Joined-spot-modulus)
     → (c.max-spot.result ≡ spot (home_of_entry c.args.modulus.count c.args.sorted.now) c.args.modulus.count (length c.args.sorted.now) c.loop-index.index)
     × (c.if-spot-modulus.set ≡ place c.args.modulus.count c.args.sorted.now c.loop-index.index)
 unfolding wrapped
-place_is g c =
+place_is c =
     let n : ℕ = c.args.modulus.count in
     let is : c.max-spot.result ≡ spot (home_of_entry n c.args.sorted.now) n (length c.args.sorted.now) c.loop-index.index =
     grind (arith, nat_tests, c.max-spot.ensures, c.loop-index.invariant.next, c.home_of_hash.ensures.value) in (
@@ -35,45 +35,46 @@ place_is g c =
     )
 
 pub set-requires-clause-within : goal.set-requires-clause-within
-set-requires-clause-within g c = omega (
+set-requires-clause-within c = omega (
   arith,
-  (place_is g (goal.at.set-requires-clause-within g c).Joined-spot-modulus).1,
-  place-below c.args.modulus.count g.hashes c.args.sorted.now c.requires.1.1.1.1.0 (omega (arith, c.requires.1.1.1.0, c.requires.0))
-      c.requires.1.1.1.1.1 c.loop-index.index c.loop-index-test.true,
+  (place_is (goal.at.set-requires-clause-within c).Joined-spot-modulus).1,
+  place-below c.args.modulus.count c.args.sorted.now (omega (arith, c.requires.room, c.requires.counted)) c.requires.sorted
+      c.loop-index.index c.loop-index-test.true,
   c.loop-index.invariant.filled.count,
 )
 
 pub set-requires-clause-fits : goal.set-requires-clause-fits
-set-requires-clause-fits g c = subst (λ n. Fits n (get_or c.args.sorted.now c.loop-index.index blank)) (sym c.loop-index.invariant.filled.count)
+set-requires-clause-fits c =
+    let are = c.requires.entries.1 in
+    subst (λ n. Fits n (get_or c.args.sorted.now c.loop-index.index blank)) (sym c.loop-index.invariant.filled.count)
     (All-get_or (Fits c.args.modulus.count) c.args.sorted.now c.loop-index.index blank c.loop-index-test.true
-    (all_fit g.hashes c.args.modulus.count c.args.sorted.now c.requires.1.1.1.1.0 (omega (arith, c.requires.1.1.1.0, c.requires.0))))
+    (all_fit c.requires.entries.0 c.args.modulus.count c.args.sorted.now are (omega (arith, are.count, c.requires.room, c.requires.counted))))
 
 pub overflow_add-next : goal.overflow_add-next
-overflow_add-next g c = omega (
+overflow_add-next c = omega (
   arith,
-  (place_is g (goal.at.overflow_add-next g c).Joined-spot-modulus).0,
+  (place_is (goal.at.overflow_add-next c).Joined-spot-modulus).0,
   spot-below (home_of_entry c.args.modulus.count c.args.sorted.now) c.args.modulus.count (length c.args.sorted.now)
-      (homes c.args.modulus.count g.hashes c.args.sorted.now c.requires.1.1.1.1.0 (omega (arith, c.requires.1.1.1.0, c.requires.0))
-      c.requires.1.1.1.1.1) c.loop-index.index c.loop-index-test.true,
-  c.requires.0,
-  c.requires.1.0,
+      (homes c.args.modulus.count c.args.sorted.now (omega (arith, c.requires.room, c.requires.counted)) c.requires.sorted)
+      c.loop-index.index c.loop-index-test.true,
+  c.requires.counted,
+  c.requires.few,
 )
 
 pub loop-index-preserved : goal.loop-index-preserved
-loop-index-preserved g c =
+loop-index-preserved c =
     let n : ℕ = c.args.modulus.count in
     let k : ℕ = c.loop-index.index in
-    let p : ℕ = c.if-spot-modulus.set in
     record {
       next = grind (arith, nat_tests, c.max-spot.ensures, c.loop-index.invariant.next, c.home_of_hash.ensures.value);
-      filled = subst (Filled n g.hashes c.args.sorted.now (k + 1))
-          (ap (λ p. set c.loop-index.slots p (get_or c.args.sorted.now k blank)) (sym (place_is g (goal.at.loop-index-preserved g c).Joined-spot-modulus).1)
+      filled = subst (Filled n c.args.sorted.now (k + 1))
+          (ap (λ p. set c.loop-index.slots p (get_or c.args.sorted.now k blank)) (sym (place_is (goal.at.loop-index-preserved c).Joined-spot-modulus).1)
           ∙ sym c.set.ensures)
-          (filled_more n g.hashes c.args.sorted.now c.requires.1.1.1.1.0 (omega (arith, c.requires.1.1.1.0, c.requires.0)) c.requires.1.1.1.1.1
+          (filled_more n c.args.sorted.now (omega (arith, c.requires.room, c.requires.counted)) c.requires.sorted
           k c.loop-index.slots c.loop-index-test.true c.loop-index.invariant.filled);
     }
 
 pub returns-clause-table : goal.returns-clause-table
-returns-clause-table g c = filled_all c.args.modulus.count c.loop-index.index g.hashes c.args.sorted.now c.loop-index.slots c.requires.1.1.1.1.0
-    (omega (arith, c.requires.1.1.1.0, c.requires.0)) c.requires.1.1.1.1.1 (omega (arith, c.loop-index-test.false, c.loop-index.auto.index-end))
+returns-clause-table c = filled_all c.args.modulus.count c.loop-index.index c.args.sorted.now c.loop-index.slots
+    (omega (arith, c.requires.room, c.requires.counted)) c.requires.sorted (omega (arith, c.loop-index-test.false, c.loop-index.auto.index-end))
     c.loop-index.invariant.filled

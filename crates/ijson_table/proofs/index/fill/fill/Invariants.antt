@@ -5,7 +5,7 @@ use Rattle.ijson_table.proofs.filling.Spots.{passing}
 use Rattle.ijson_table.proofs.index.fill.fill.Given as goal
 
 abbrev pub invariant-loop-index : goal.invariant-loop-index
-invariant-loop-index g l = record {
+invariant-loop-index l = record {
   next : l.next ≡ next_after (home_of_entry l.modulus.count l.sorted) (passing (home_of_entry l.modulus.count l.sorted) l.modulus.count (length l.sorted)) l.index;
-  filled : Filled l.modulus.count g.hashes l.sorted l.index l.slots;
+  filled : Filled l.modulus.count l.sorted l.index l.slots;
 }
