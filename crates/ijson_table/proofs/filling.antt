@@ -1,4 +1,3 @@
+pub mod FilledSlots
 pub mod HomesAscend
-pub mod Rotation
-pub mod PlacedSorted
-pub mod NoneEmpty
+pub mod Spots

@@ -1,9 +1,9 @@
 -- The walk over the entries of pairs in the order of their keys: the previous entry of a key has an earlier index.
-use Rattle.std.proofs.Common.{◌≡◌, ◌≢◌, ℕ, suc, ◌+◌, ◌-◌, ◌<◌, ◌≤◌, inl, inr, arith, List, [], length, get_or, set, map, Some, None}
+use Rattle.std.proofs.Common.{◌≡◌, ◌≢◌, ℕ, suc, ◌+◌, ◌-◌, ◌^◌, ◌<◌, ◌≤◌, inl, inr, arith, List, [], length, get_or, set, map, Some, None}
 use Rattle.std.proofs.Common.{refl, sym, ap, subst, ◌∙◌, get_or-set_other, get_or-set_same}
 use Rattle.std.proofs.lemmas.Bool.{cases_eq, cases_order}
 use Rattle.std.proofs.lemmas.Bool.Decides.{nat_tests}
-use Rattle.std.proofs.lemmas.List.{get_or-map, length-set}
+use Rattle.std.proofs.lemmas.List.{get_or-map, length-map, length-set}
 use Rattle.std.proofs.lemmas.List.Elements.{All-get_or}
 use Rattle.std.specs.declared.cmp.Ordering.TheVariants.{Equal}
 use Rattle.ijson_table.specs.Slots.{resident, times}
@@ -11,9 +11,9 @@ use Rattle.ijson_table.specs.private.KeyOrder.{AreEarlier, AreInOrder, IsEarlier
 use Rattle.ijson_table.specs.private.SecondHash.{second_hash}
 use Rattle.ijson_table.specs.private.SlotHashes.{blank, position_in, positions}
 use Rattle.ijson_table.specs.private.Sorting.{Entry}
-use Rattle.ijson_table.proofs.filling.NoneEmpty.{none_empty}
 use Rattle.ijson_table.proofs.firsts.KeyTies.{between, lower_first, same_entry_key, sorted_at, tied}
 use Rattle.ijson_table.proofs.slots.HashesInSlots.{hashes-at, position-at, positions-length}
+use Rattle.ijson_table.proofs.slots.KeptHashes.{kept-wide}
 use Rattle.ijson_table.proofs.slots.Residents.{some_position, stands, stands_once, times-some}
 
 -- After k entries: earlier indices are written at the indices that were passed, and this was the last entry, or is the
@@ -29,7 +29,7 @@ module _ (keys : List (List ℕ)) (sorted : List Entry) (s : AreInOrder keys sor
   is_position k p lk e =
       let there : resident (positions sorted) k ≡ Some p = position-at sorted k (Some p) lk (sym e) in
       let some = times-some p (positions sorted) k (omega (arith, lk, positions-length sorted)) there in
-      grind (arith, nat_tests, s.each p, some)
+      grind (arith, nat_tests, s.entries.placed p, some, length-map keys second_hash)
 
   -- an index that was found is that of an entry
   found : (i k : ℕ) → k < length (positions sorted) → resident (positions sorted) k ≡ Some i
@@ -41,19 +41,20 @@ module _ (keys : List (List ℕ)) (sorted : List Entry) (s : AreInOrder keys sor
   -- each index is that of an entry
   pub spot : (i : ℕ) → i < length keys → (k : ℕ) × (k < length sorted) × (position_in (get_or sorted k blank) ≡ Some i)
   spot i li =
-      let one : times i (positions sorted) ≡ 1 = grind (arith, nat_tests, s.each i) in
+      let one : times i (positions sorted) ≡ 1 = grind (arith, nat_tests, s.entries.placed i, length-map keys second_hash) in
       let it = stands i (positions sorted) (omega arith) in
       found i it.0 it.1 it.2
 
   -- no entry is empty
   pub each_stands : (k : ℕ) → k < length sorted → position_in (get_or sorted k blank) ≢ None
-  each_stands k lk = All-get_or (λ entry. position_in entry ≢ None) sorted k blank lk (none_empty (length keys) sorted s.count s.each)
+  each_stands k lk = All-get_or (λ entry. position_in entry ≢ None) sorted k blank lk s.entries.some
 
   -- so each has the hash of its key
   is_hashed : (k : ℕ) → k < length sorted → (get_or sorted k blank).hash ≡ second_hash (entry_key keys (get_or sorted k blank))
   is_hashed k lk =
       let it = some_position (position_in (get_or sorted k blank)) (each_stands k lk) in
-      hashes-at (map second_hash keys) sorted k s.hashes lk it.0 it.1
+      hashes-at (2 ^ 64 - 1) (map second_hash keys) sorted k s.entries.hashes_are lk it.0 it.1
+      ∙ kept-wide (2 ^ 64 - 1) (get_or (map second_hash keys) it.0 0) (omega arith)
       ∙ (get_or-map second_hash keys it.0 [] 0 (is_position k it.0 lk it.1) ∙ ap (λ o. second_hash (key_at_position keys o)) (sym it.1))
 
   -- and entries of one key have one hash
@@ -138,7 +139,7 @@ module _ (keys : List (List ℕ)) (sorted : List Entry) (s : AreInOrder keys sor
             let lower : q ≤ p = lower_first keys before entry q p (sorted_at (before_by_key keys) sorted s.order l k (omega arith) lk)
             (tied keys before entry (one_hash l k ll lk key) key) there e in
             let apart : q ≢ p = λ one.
-            let once : times p (positions sorted) ≤ 1 = grind (arith, nat_tests, s.each p, is_position k p lk e) in
+            let once : times p (positions sorted) ≤ 1 = grind (arith, nat_tests, s.entries.placed p) in
             let at_one : l ≡ k = stands_once p (positions sorted) l k once (omega (arith, ll, positions-length sorted))
             (omega (arith, lk, positions-length sorted)) (position-at sorted l (Some p) ll (sym (there ∙ ap Some one)))
             (position-at sorted k (Some p) lk (sym e)) in

@@ -1,66 +1,80 @@
-use Rattle.std.proofs.Common.{◌≡◌, ◌+◌, ◌<◌, ◌≤◌, ℕ, List, length, get_or, arith, ap, sym, ◌∙◌, subst}
-use Rattle.std.specs.List.{All}
-use Rattle.ijson_table.specs.declared.slot.Slot.{Slot}
-use Rattle.ijson_table.specs.private.HashIndex.{HashIndex}
-use Rattle.ijson_table.specs.private.HomeOrder.{home_in, AreInHomeOrder, CanBePlaced, HaveRoom, rotated}
+use Rattle.std.proofs.Common.{◌≡◌, ◌+◌, ℕ, length, get_or, set, arith, ap, sym, ◌∙◌, subst}
+use Rattle.std.proofs.lemmas.Bool.Decides.{nat_tests}
+use Rattle.std.proofs.lemmas.List.Elements.{All-get_or}
+use Rattle.ijson_table.specs.private.HomeOrder.{home_of_entry}
 use Rattle.ijson_table.specs.private.Narrow.{Fits}
 use Rattle.ijson_table.specs.private.SlotHashes.{blank}
-use Rattle.ijson_table.proofs.filling.NoneEmpty.{none_empty}
-use Rattle.ijson_table.proofs.filling.Rotation.{rotated_room}
-use Rattle.ijson_table.proofs.slots.HashesInSlots.{positions-length}
-use Rattle.ijson_table.proofs.slots.IndexInvariant.{index_is, each_empty, IsIndexOf}
+use Rattle.ijson_table.proofs.filling.FilledSlots.{Filled, filled_all, filled_more, filled_none, homes, place, place-below}
+use Rattle.ijson_table.proofs.filling.Spots.{spot, spot-below, wrapped}
 use Rattle.ijson_table.proofs.slots.NarrowSlots.{all_fit}
-use Rattle.ijson_table.proofs.index.Index.fill.Given.{Over}
-use Rattle.ijson_table.proofs.index.Index.fill.Goals as goal
+use Rattle.ijson_table.proofs.slots.SlotTables.{each_empty}
+use Rattle.ijson_table.proofs.index.fill.fill.Goals as goal
+use Rattle.ijson_table.proofs.index.fill.fill.Goals.{Joined-spot-modulus, then-spot-modulus, else-spot-modulus}
 
--- the entries can be written, beginning with the one whose home slot exceeds its number the most
-can_lay : (hashes : List ℕ) (n count start first : ℕ) (sorted : List Slot) → AreInHomeOrder hashes n sorted → length hashes ≤ n → count ≡ n
-    → start < length sorted → first < count → first ≡ home_in count (get_or sorted start blank)
-    → ((k : ℕ) → k < length sorted → home_in count (get_or sorted k blank) + start ≤ home_in count (get_or sorted start blank) + k)
-    → CanBePlaced hashes n start first sorted
-can_lay hashes n count start first sorted are fits counted starts within is greatest =
-    let most = subst (λ m. (k : ℕ) → k < length sorted
-    → home_in m (get_or sorted k blank) + start ≤ home_in m (get_or sorted start blank) + k) counted greatest in
-    let home : first ≡ home_in n (get_or sorted start blank) = is ∙ ap (λ m. home_in m (get_or sorted start blank)) counted in
-    record {
-      starts = starts;
-      within = omega arith;
-      some = none_empty (length hashes) sorted are.count are.placed;
-      hashes_are = are.hashes_are;
-      room = subst (λ h. HaveRoom n h (rotated start sorted)) (sym home)
-          (rotated_room n start sorted are.sorted starts (omega (arith, fits, are.count)) most);
-    }
+pub loop-index-init : goal.loop-index-init
+loop-index-init c = record {
+  next = c.past_end-next.ensures;
+  filled = filled_none c.args.modulus.count c.args.sorted.now c.args.slots.now (sym c.requires.counted)
+      (each_empty c.args.slots.now c.requires.empty);
+}
 
-pub place_sorted-requires : goal.place_sorted-requires
-place_sorted-requires g c =
-    let slots : List Slot = c.self.inside.slots in
-    let counted : c.new-modulus.result.count ≡ length slots = c.new-modulus.ensures ∙ c.len.ensures in
-    let same : length c.args.self.now.slots ≡ length slots =
-    sym (ap (λ (l : HashIndex). length l.slots) c.self.view_is) ∙ positions-length slots in (
-      counted,
-      (
-        each_empty slots c.self.invariant (ap (λ (l : HashIndex). l.hashes) c.self.view_is ∙ c.requires.0),
-        (
-          can_lay g.hashes (length slots) c.new-modulus.result.count c.first_in_row-start.result c.home_of_hash-first.result
-              c.args.sorted.now (subst (λ n. AreInHomeOrder g.hashes n c.args.sorted.now) same c.requires.1.1.0)
-              (omega (arith, c.requires.1.0, same)) counted c.first_in_row-start.ensures.within c.home_of_hash-first.ensures.within
-              c.home_of_hash-first.ensures.value
-              c.first_in_row-start.ensures.greatest,
-          subst (λ n. All (Fits n) c.args.sorted.now) same (all_fit g.hashes (length c.args.self.now.slots)
-              c.args.sorted.now c.requires.1.1.0 c.requires.1.0 c.requires.1.1.1),
-        ),
-      ),
+-- the next entry is written to its slot
+place_is : (c : Joined-spot-modulus)
+    → (c.max-spot.result ≡ spot (home_of_entry c.args.modulus.count c.args.sorted.now) c.args.modulus.count (length c.args.sorted.now) c.loop-index.index)
+    × (c.if-spot-modulus.set ≡ place c.args.modulus.count c.args.sorted.now c.loop-index.index)
+unfolding wrapped
+place_is c =
+    let n : ℕ = c.args.modulus.count in
+    let is : c.max-spot.result ≡ spot (home_of_entry n c.args.sorted.now) n (length c.args.sorted.now) c.loop-index.index =
+    grind (arith, nat_tests, c.max-spot.ensures, c.loop-index.invariant.next, c.home_of_hash.ensures.value) in (
+      is,
+      elim c.if-spot-modulus.branch [
+        | then-spot-modulus w ↦ grind (arith, nat_tests, is, w.set-is, w.if-spot-modulus.true)
+        | else-spot-modulus w ↦ grind (arith, nat_tests, is, w.set-is, w.if-spot-modulus.false)
+      ],
     )
 
--- the returned slots, and their hashes
-left : (g : Over) (c : goal.After-place_sorted g) → IsIndexOf g.hashes c.place_sorted.new.slots
-left g c = index_is g.hashes c.place_sorted.new.slots (record {
-  table = record { ordered = c.place_sorted.ensures.ordered; placed = λ i. c.place_sorted.ensures.placed i ∙ c.requires.1.1.0.placed i };
-  hashes_are = c.place_sorted.ensures.hashes;
-}) (omega (arith, c.place_sorted.ensures.count, c.self.invariant.limited))
+pub set-requires-clause-within : goal.set-requires-clause-within
+set-requires-clause-within c = omega (
+  arith,
+  (place_is (goal.at.set-requires-clause-within c).Joined-spot-modulus).1,
+  place-below c.args.modulus.count c.args.sorted.now (omega (arith, c.requires.room, c.requires.counted)) c.requires.sorted
+      c.loop-index.index c.loop-index-test.true,
+  c.loop-index.invariant.filled.count,
+)
 
-pub invariant_of-self : goal.invariant_of-self
-invariant_of-self g c = (left g c).index
+pub set-requires-clause-fits : goal.set-requires-clause-fits
+set-requires-clause-fits c =
+    let are = c.requires.entries.1 in
+    subst (λ n. Fits n (get_or c.args.sorted.now c.loop-index.index blank)) (sym c.loop-index.invariant.filled.count)
+    (All-get_or (Fits c.args.modulus.count) c.args.sorted.now c.loop-index.index blank c.loop-index-test.true
+    (all_fit c.requires.entries.0 c.args.modulus.count c.args.sorted.now are (omega (arith, are.count, c.requires.room, c.requires.counted))))
 
-pub returns-clause-hashes : goal.returns-clause-hashes
-returns-clause-hashes g c = (left g c).is
+pub overflow_add-next : goal.overflow_add-next
+overflow_add-next c = omega (
+  arith,
+  (place_is (goal.at.overflow_add-next c).Joined-spot-modulus).0,
+  spot-below (home_of_entry c.args.modulus.count c.args.sorted.now) c.args.modulus.count (length c.args.sorted.now)
+      (homes c.args.modulus.count c.args.sorted.now (omega (arith, c.requires.room, c.requires.counted)) c.requires.sorted)
+      c.loop-index.index c.loop-index-test.true,
+  c.requires.counted,
+  c.requires.few,
+)
+
+pub loop-index-preserved : goal.loop-index-preserved
+loop-index-preserved c =
+    let n : ℕ = c.args.modulus.count in
+    let k : ℕ = c.loop-index.index in
+    record {
+      next = grind (arith, nat_tests, c.max-spot.ensures, c.loop-index.invariant.next, c.home_of_hash.ensures.value);
+      filled = subst (Filled n c.args.sorted.now (k + 1))
+          (ap (λ p. set c.loop-index.slots p (get_or c.args.sorted.now k blank)) (sym (place_is (goal.at.loop-index-preserved c).Joined-spot-modulus).1)
+          ∙ sym c.set.ensures)
+          (filled_more n c.args.sorted.now (omega (arith, c.requires.room, c.requires.counted)) c.requires.sorted
+          k c.loop-index.slots c.loop-index-test.true c.loop-index.invariant.filled);
+    }
+
+pub returns-clause-table : goal.returns-clause-table
+returns-clause-table c = filled_all c.args.modulus.count c.loop-index.index c.args.sorted.now c.loop-index.slots
+    (omega (arith, c.requires.room, c.requires.counted)) c.requires.sorted (omega (arith, c.loop-index-test.false, c.loop-index.auto.index-end))
+    c.loop-index.invariant.filled

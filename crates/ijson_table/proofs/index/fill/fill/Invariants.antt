@@ -1,4 +1,11 @@
-use Rattle.ijson_table.proofs.index.Index.fill.Given as goal
+use Rattle.std.proofs.Common.{◌≡◌, length}
+use Rattle.ijson_table.specs.private.HomeOrder.{home_of_entry, next_after}
+use Rattle.ijson_table.proofs.filling.FilledSlots.{Filled}
+use Rattle.ijson_table.proofs.filling.Spots.{passing}
+use Rattle.ijson_table.proofs.index.fill.fill.Given as goal
 
-abbrev pub ghost-place_sorted : goal.ghost-place_sorted
-ghost-place_sorted g a = g.hashes
+abbrev pub invariant-loop-index : goal.invariant-loop-index
+invariant-loop-index l = record {
+  next : l.next ≡ next_after (home_of_entry l.modulus.count l.sorted) (passing (home_of_entry l.modulus.count l.sorted) l.modulus.count (length l.sorted)) l.index;
+  filled : Filled l.modulus.count l.sorted l.index l.slots;
+}
