@@ -10,7 +10,7 @@ use Rattle.ijson_table.proofs.arithmetic.Circular.{after-below, distance-back}
 use Rattle.ijson_table.proofs.slots.Residents.{times-set}
 use Rattle.ijson_table.proofs.probing.ProbePath.{displacement-some}
 use Rattle.ijson_table.proofs.probing.CrowdBound.{home-below}
-use Rattle.ijson_table.proofs.shifting.SlotWrites.{displacement-set_other, displacement-set_same}
+use Rattle.ijson_table.proofs.shifting.SlotWrites.{displacement-set_other, displacement-set_same, ordered_but}
 
 -- Slots with a gap at p: some slots in order, without the resident of p.
 pub record HasGap (hashes : List ℕ) (slots : List (Option ℕ)) (p : ℕ) : Type 0 where
@@ -73,13 +73,7 @@ module _ (hashes : List ℕ) (slots : List (Option ℕ)) (p : ℕ) (gap : HasGap
 
   -- the shift ends before an empty slot, and before a resident at its home slot
   pub gap_closed : d p' ≤ 1 → IsOrdered hashes slots
-  gap_closed end q lq = elim (cases_eq q p) [
-    | inl self ↦ omega (arith, end, ap (λ k. d (after n k)) self)
-    | inr other ↦ elim (cases_eq (after n q) p) [
-      | inl to ↦ omega (arith, hollow, ap d to)
-      | inr away ↦ omega (arith, ordered q lq, off q other, off (after n q) away)
-    ]
-  ]
+  gap_closed end = ordered_but full d n p ordered off (omega (arith, end)) (λ q lq ne to. omega (arith, hollow))
 
   -- A step of the shift: the resident of the next slot, which is not at home, moves to the gap, and leaves one.
   module _ (k : ℕ) (there : resident slots p' ≡ Some k) (far : 1 < d p') where
@@ -117,23 +111,16 @@ module _ (hashes : List ℕ) (slots : List (Option ℕ)) (p : ℕ) (gap : HasGap
     others q ne = displacement-set_other hashes slots p q (Some k) ne
 
     in_order : (q : ℕ) → q < n → d_mid (after n q) ≤ d_mid q + 1
-    in_order q lq = elim (cases_eq q p) [
-      | inl self ↦ omega (arith, nearer, others p' moves, ap d_mid self, ap (λ r. d_mid (after n r)) self)
-      | inr other ↦ elim (cases_eq (after n q) p) [
-        | inl to ↦ omega (
-            arith,
-            nearer,
-            off p' moves,
-            ordered q lq,
-            ordered p gap_within,
-            off q other,
-            others q other,
-            ap d_mid to,
-            ap full to,
-          )
-        | inr away ↦ omega (arith, ordered q lq, off q other, off (after n q) away, others q other, others (after n q) away)
-      ]
-    ]
+    in_order = ordered_but full d_mid n p ordered (λ q ne. others q ne ∙ off q ne) (omega (arith, nearer, others p' moves)) (λ q lq ne to. omega (
+      arith,
+      nearer,
+      off p' moves,
+      ordered q lq,
+      ordered p gap_within,
+      off q ne,
+      others q ne,
+      ap full to,
+    ))
 
     pub moved_back : HasGap hashes last p'
     moved_back = record {

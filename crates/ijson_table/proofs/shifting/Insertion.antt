@@ -1,21 +1,19 @@
 -- The conditions for insertion into a table of the first indices.
-use Rattle.std.proofs.Common.{◌≡◌, ◌≢◌, ℕ, zero, suc, ◌+◌, ◌-◌, ◌<◌, ◌≤◌, ◌⊎◌, inl, inr, arith, List, [], ◌∷◌, length, set, Option, Some}
-use Rattle.std.proofs.Common.{None, refl, sym, ap, subst, ◌∙◌, get_or-set_other}
-use Rattle.std.specs.Prelude.{sum, ltb, eqb, true, if◌then◌else◌}
+use Rattle.std.proofs.Common.{◌≡◌, ◌≢◌, ℕ, zero, suc, ◌-◌, ◌<◌, ◌≤◌, ◌⊎◌, inl, inr, arith, List, [], ◌∷◌, length, set, Option, Some}
+use Rattle.std.proofs.Common.{None, refl, sym, ap, ◌∙◌, get_or-set_other}
+use Rattle.std.specs.Prelude.{sum, eqb, true}
 use Rattle.std.proofs.lemmas.Bool.Decides.{nat_tests}
 use Rattle.std.proofs.lemmas.List.{length-set}
 use Rattle.std.proofs.lemmas.List.Sums.{sum_by-set}
 use Rattle.std.proofs.lemmas.Bool.{cases_lt}
 use Rattle.ijson_table.specs.Crowd.{distance}
-use Rattle.ijson_table.specs.private.Holds.{one_if, Holds, MayStand, HasEmpty}
+use Rattle.ijson_table.specs.private.Holds.{MayStand, HasEmpty}
 use Rattle.ijson_table.specs.Slots.{after, displacement, resident, home_at, times, below}
 use Rattle.ijson_table.specs.private.Probe.{onward, Passed}
 use Rattle.ijson_table.proofs.arithmetic.Circular.{after-injective, onward-below, after-onward, distance-below, distance-onward}
 use Rattle.ijson_table.proofs.arithmetic.Circular.{onward-distance}
 use Rattle.ijson_table.proofs.arithmetic.Counting.{covers}
 use Rattle.ijson_table.proofs.slots.Residents.{times-some, stands_once}
-use Rattle.ijson_table.proofs.probing.ProbePath.{displacement-none}
-use Rattle.ijson_table.proofs.shifting.SlotWrites.{put_down, taken_up}
 use Rattle.ijson_table.proofs.probing.LookCount.{ones, sum-ones, one-at, length-ones}
 
 -- if each slot has a resident, so has each slot but the first

@@ -1,4 +1,4 @@
-use Rattle.std.proofs.Common.{◌≡◌, ℕ, ◌%◌, ◌-◌, ◌<◌, ◌≤◌, ◌⊎◌, List, length, Option, true, false, Bool, eqb, arith, ap, subst, sym, ◌∙◌}
+use Rattle.std.proofs.Common.{◌≡◌, ℕ, ◌%◌, ◌-◌, ◌≤◌, ◌⊎◌, List, length, Option, true, false, Bool, eqb, arith, ap, subst, sym, ◌∙◌}
 use Rattle.std.proofs.Common.{inl, inr}
 use Rattle.ijson_table.specs.declared.slot.Slot.{Slot}
 use Rattle.ijson_table.specs.Slots.{displacement, resident}

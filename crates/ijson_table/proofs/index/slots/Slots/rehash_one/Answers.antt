@@ -1,8 +1,7 @@
-use Rattle.std.proofs.Common.{◌≡◌, ◌≢◌, ◌<◌, ◌≤◌, ℕ, length, get_or, map, set, arith, ap, sym, get_or-set_other, get_or-set_same, subst, ◌∙◌}
+use Rattle.std.proofs.Common.{◌≡◌, ◌≢◌, ◌<◌, ◌≤◌, ℕ, length, get_or, set, arith, ap, sym, get_or-set_other, get_or-set_same, subst, ◌∙◌}
 use Rattle.std.proofs.lemmas.Bool.Decides.{nat_tests}
 use Rattle.std.proofs.lemmas.List.{length-set}
-use Rattle.ijson_table.specs.Slots.{below, times}
-use Rattle.ijson_table.specs.Store.{keys_of}
+use Rattle.ijson_table.specs.Slots.{below}
 use Rattle.ijson_table.specs.private.Holds.{HasEmpty}
 use Rattle.ijson_table.specs.private.Insertion.{MayPut}
 use Rattle.ijson_table.specs.private.KeptHash.{kept}
