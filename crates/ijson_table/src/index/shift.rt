@@ -1,6 +1,6 @@
 //! Moves of residents by their hashes: removal with backward shift, and a new hash.
 
-ghost use Rattle.std.specs.Prelude.{◌≡◌, ℕ, ◌+◌, ◌<◌, ◌%◌, ◌^◌, List, length, map, set, Some};
+ghost use Rattle.std.specs.Prelude.{◌≡◌, ℕ, ◌+◌, ◌<◌, ◌≤◌, ◌%◌, ◌^◌, List, length, map, set, Some};
 ghost use Rattle.ijson_table.specs.Slots.{resident};
 ghost use Rattle.ijson_table.specs.Store.{keys_of};
 ghost use Rattle.ijson_table.specs.private.Closing.{closed};
@@ -140,6 +140,7 @@ impl Slots {
     pub fn rehash_one<V, H: KeyHash>(&mut self, pairs: &[(IString, V)], position: usize, hash: u64)
         requires table { IsTableOf (map H.hash_of (keys_of pairs.now)) self.old }
         requires within { position < length pairs.now }
+        requires room { length pairs.now ≤ length self.old }
         ensures table { IsTableOf (set (map H.hash_of (keys_of pairs.now)) position hash) self.new }
         ensures count { length self.new ≡ length self.old }
     {
