@@ -34,9 +34,6 @@ empty g c =
     (grind (arith, nat_tests, held.placed c.args.position, one_if-same c.args.position, inside g c))
     (omega (arith, room g c, positions-length c.take_out.new.slots))
 
-pub new-modulus-requires : goal.new-modulus-requires
-new-modulus-requires g c = omega (arith, c.requires.within, c.requires.room, c.take_out.ensures.count, c.len.ensures)
-
 pub vacancy-slot-requires-clause-empty : goal.vacancy-slot-requires-clause-empty
 vacancy-slot-requires-clause-empty g c = empty g (goal.at.vacancy-slot-requires-clause-empty g c).After-take_out
 
