@@ -15,7 +15,7 @@ pub record HasGapAt (hashes : List ℕ) (gone count : ℕ) (slots : List Slot) (
   pub size : length slots ≡ count
 
 abbrev pub invariant-loop-modulus : goal.invariant-loop-modulus
-invariant-loop-modulus g l = HasGapAt (map g.H.KeyHash.hash_of (keys_of l.fn.pairs)) l.fn.position (length l.fn.slots) l.slots l.gap
+invariant-loop-modulus g l = HasGapAt (map g.H.KeyHash.hash_of (keys_of l.fn.pairs)) l.fn.position l.modulus.count l.slots l.gap
 
 abbrev pub decreases-loop-modulus : goal.decreases-loop-modulus
 decreases-loop-modulus g l = all_displacements (map g.H.KeyHash.hash_of (keys_of l.fn.pairs)) (positions l.slots)
