@@ -9,7 +9,7 @@ use Rattle.ijson_table.specs.private.Changes.{changes}
 use Rattle.ijson_table.specs.private.Holds.{Holds, MayStand, with_one}
 use Rattle.ijson_table.specs.private.Insertion.{Accepts, IsPut}
 use Rattle.ijson_table.specs.private.Probe.{onward, AreFull}
-use Rattle.ijson_table.specs.private.SlotHashes.{position_in, positions, blank}
+use Rattle.ijson_table.specs.private.SlotHashes.{position_in, positions, blank, HasHash}
 use Rattle.ijson_table.proofs.arithmetic.Circular.{distance-after, distance-below, distance-self, onward-distance}
 use Rattle.ijson_table.proofs.shifting.SlotWrites.{put_down, taken_up}
 use Rattle.ijson_table.proofs.probing.ProbePath.{displacement-none}
@@ -40,7 +40,7 @@ passed_more old n from slot more size lf ls is passed here j lj none = elim (cas
 ]
 
 module _ (hashes : List ℕ) (old : List Slot) (position from : ℕ) (slots : List Slot) (entry : Slot) (slot : ℕ)
-    (way : IsOnTheWay hashes old position from slots entry slot) where
+    (way : IsOnTheWay hashes old position from slots entry slot) (read : Slot) (is : read ≡ get_or slots slot blank) where
   abbrev n : ℕ
   n = length old
 
@@ -68,9 +68,9 @@ module _ (hashes : List ℕ) (old : List Slot) (position from : ℕ) (slots : Li
   put = rw (positions-put slots slot entry pending way.held.1) (put_down hashes want ps pending slot may.within way.held.2 may)
 
   -- if the slot is empty, the last one is written
-  is_put : None ≡ position_in (get_or slots slot blank) → IsPut hashes old position from slot (set slots slot entry)
+  is_put : position_in read ≡ None → IsPut hashes old position from slot (set slots slot entry)
   is_put empty =
-      let none : resident ps slot ≡ None = position-at slots slot None here empty in
+      let none : resident ps slot ≡ None = position-at slots slot None here (sym empty ∙ ap position_in is) in
       record {
         holds = subst (λ o. Holds hashes want o (positions (set slots slot entry))) none put;
         hashes_are = hashes-set n hashes slots slot entry way.has_hash way.have_hashes;
@@ -99,41 +99,41 @@ module _ (hashes : List ℕ) (old : List Slot) (position from : ℕ) (slots : Li
   still_empty = way.left e le ahead ∙ way.some_empty.2
 
   -- If the slot has a resident,
-  module _ (next : ℕ) (there : Some next ≡ position_in (get_or slots slot blank)) where
-    stood : resident ps slot ≡ Some next
-    stood = position-at slots slot (Some next) here there
+  module _ (k next : ℕ) (there : position_in read ≡ Some k) (to : next ≡ after n slot) where
+    stood : resident ps slot ≡ Some k
+    stood = position-at slots slot (Some k) here (sym there ∙ ap position_in is)
 
     -- there is a next slot,
     room : distance n from slot + 1 < n
     room = elim (cases_eq (distance n from e) (distance n from slot)) [
       | inl same ↦
           let at : e ≡ slot = sym (onward-distance n from e way.starts le) ∙ (ap (onward n from) same ∙ onward-distance n from slot way.starts within) in
-          let bad : ◌≡◌ {A = Option ℕ} (Some next) None = sym stood ∙ (ap (resident ps) (sym at) ∙ still_empty) in
+          let bad : ◌≡◌ {A = Option ℕ} (Some k) None = sym stood ∙ (ap (resident ps) (sym at) ∙ still_empty) in
           absurd (cc (bad))
       | inr other ↦ omega (arith, ahead, other, distance-below n from e way.starts le)
     ]
 
     -- which is one further from the first,
-    further : distance n from (after n slot) ≡ distance n from slot + 1
-    further = distance-after n from slot way.starts within room
+    further : distance n from next ≡ distance n from slot + 1
+    further = ap (distance n from) to ∙ distance-after n from slot way.starts within room
 
-    may_next : MayStand hashes (positions (set slots slot entry)) next (after n slot)
+    may_next : MayStand hashes (positions (set slots slot entry)) k next
     may_next = rw (positions-put slots slot entry pending way.held.1)
-        (subst (λ m. MayStand hashes (set ps slot (Some pending)) next (after m slot)) (positions-length slots ∙ way.size)
-        (taken_up hashes ps pending next slot e may.within (omega (arith, le, way.size, positions-length slots)) way.held.2.ordered
+        (subst (MayStand hashes (set ps slot (Some pending)) k) (ap (λ m. after m slot) (positions-length slots ∙ way.size) ∙ sym to)
+        (taken_up hashes ps pending k slot e may.within (omega (arith, le, way.size, positions-length slots)) way.held.2.ordered
         (displacement-none hashes ps e still_empty) stood may.further))
 
     -- and the invariant holds there
-    goes_further : IsOnTheWay hashes old position from (set slots slot entry) (get_or slots slot blank) (after n slot)
+    goes_further : IsOnTheWay hashes old position from (set slots slot entry) read next
     goes_further = record {
       starts = way.starts;
       some_empty = way.some_empty;
-      held = (next, sym there, subst (λ o. Holds hashes want o (positions (set slots slot entry))) stood put, may_next);
+      held = (k, there, subst (λ o. Holds hashes want o (positions (set slots slot entry))) stood put, may_next);
       changes = omega (arith, further, one_more (positions old) slots slot (distance n from slot) entry way.changes);
-      has_hash = hashes-at n hashes slots slot way.have_hashes here;
+      has_hash = subst (HasHash n hashes) (sym is) (hashes-at n hashes slots slot way.have_hashes here);
       have_hashes = hashes-set n hashes slots slot entry way.has_hash way.have_hashes;
-      passed = passed_more (positions old) n from slot (distance n from (after n slot)) (sym (positions-length old)) way.starts within further
-          way.passed (λ none. let bad : ◌≡◌ {A = Option ℕ} (Some next) None = sym stood ∙ (way.left slot within (omega arith) ∙ none) in cc);
+      passed = passed_more (positions old) n from slot (distance n from next) (sym (positions-length old)) way.starts within further
+          way.passed (λ none. let bad : ◌≡◌ {A = Option ℕ} (Some k) None = sym stood ∙ (way.left slot within (omega arith) ∙ none) in cc);
       left = λ p lp away. ap (λ qs. resident qs p) (positions-set slots slot entry)
           ∙ (get_or-set_other ps slot p (position_in entry) None (λ at. omega (arith, away, further, ap (distance n from) at))
           ∙ way.left p lp (omega (arith, away, further)));
@@ -168,40 +168,18 @@ loop-was-init g c = record {
       subst (λ entry. IsOnTheWay hashes stored c.args.position c.args.from stored entry c.args.from) (sym c.stored-entry.ensures) way;
 }
 
--- the represented slots,
-abbrev slots_seen : (g : _) (c : After-is_empty g) → List Slot
-slots_seen g c = map g.S.StoredSlot.stands_for c.loop-was.slots
-
--- and the entry
-abbrev entry_seen : (g : _) (c : After-is_empty g) → Slot
-entry_seen g c = g.S.StoredSlot.stands_for c.loop-was.entry
-
--- the represented slots after the entry is written
-written_seen : (g : _) (c : After-is_empty g) → map g.S.StoredSlot.stands_for (set c.loop-was.slots c.loop-was.slot
-    c.loop-was.entry) ≡ set (slots_seen g c) c.loop-was.slot (entry_seen g c)
-written_seen g c = map-set g.S.StoredSlot.stands_for c.loop-was.slots c.loop-was.slot c.loop-was.entry
-
--- the invariant holds, for the hashes of the call
-on_way : (g : _) (c : After-is_empty g) → IsOnTheWay c.requires.may.0 (map g.S.StoredSlot.stands_for c.args.slots.now) c.args.position
-    c.args.from (slots_seen g c) (entry_seen g c) c.loop-was.slot
-on_way g c = c.loop-was.invariant.way c.requires.may.0 c.requires.may.1
-
 -- the value read represents the slot,
 read_seen : (g : _) (c : After-is_empty g) → g.S.StoredSlot.stands_for c.index-slots-slot.result
-    ≡ get_or (slots_seen g c) c.loop-was.slot blank
+    ≡ get_or (map g.S.StoredSlot.stands_for c.loop-was.slots) c.loop-was.slot blank
 read_seen g c = seen_at g.S.StoredSlot.stands_for c.loop-was.slots c.loop-was.slot c.index-slots-slot.result
-    (here _ _ _ _ _ _ _ (on_way g c)) c.index-slots-slot.is
+    (omega (arith, c.loop-was.invariant.inside, length-map c.loop-was.slots g.S.StoredSlot.stands_for)) c.index-slots-slot.is
 
--- and so does its index, or none
-told : (g : _) (c : After-is_empty g) → position_in c.widened.result ≡ position_in (get_or (slots_seen g c) c.loop-was.slot blank)
-told g c = ap position_in c.widened.ensures.value ∙ ap position_in (read_seen g c)
-
--- so if it is not empty, it has a resident
+-- which has a resident if it is not empty
 stands : (g : _) (c : After-is_empty g) → c.is_empty.result ≡ false
-    → (next : ℕ) × (Some next ≡ position_in (get_or (slots_seen g c) c.loop-was.slot blank))
+    → (k : ℕ) × (position_in (g.S.StoredSlot.stands_for c.index-slots-slot.result) ≡ Some k)
 stands g c full =
     let who = some_position (position_in c.widened.result) (λ none. let empty = c.is_empty.ensures.1 none in absurd (cc (empty, full))) in
-    (who.0, sym who.1 ∙ told g c)
+    (who.0, sym (ap position_in c.widened.ensures.value) ∙ who.1)
 
 -- the next slot, among the represented ones
 next_seen : (g : _) (c : goal.After-next_slot-slot g) → c.next_slot-slot.result
@@ -214,24 +192,22 @@ loop-was-preserved g c =
     let there = stands g p c.if-is_empty.false in
     record {
       inside = search rules;
-      way = λ hashes allowed. rw (written_seen g p, read_seen g p, next_seen g c)
-          (goes_further _ _ _ _ _ _ _ (c.loop-was.invariant.way hashes allowed) there.0 there.1);
+      way = λ hashes allowed. rw (map-set g.S.StoredSlot.stands_for c.loop-was.slots c.loop-was.slot c.loop-was.entry)
+          (goes_further _ _ _ _ _ _ _ (c.loop-was.invariant.way hashes allowed) _ (read_seen g p) there.0 c.next_slot-slot.result there.1 (next_seen g c));
     }
 
 pub loop-was-smaller : goal.loop-was-smaller
 loop-was-smaller g c =
     let p = (goal.at.loop-was-smaller g c).After-is_empty in
     let there = stands g p c.if-is_empty.false in
-    let n = length (map g.S.StoredSlot.stands_for c.args.slots.now) in
+    let way = c.loop-was.invariant.way c.requires.may.0 c.requires.may.1 in
     omega (
       arith,
-      room _ _ _ _ _ _ _ (on_way g p) there.0 there.1,
-      further _ _ _ _ _ _ _ (on_way g p) there.0 there.1,
-      ap (distance n c.args.from) (next_seen g c),
+      room _ _ _ _ _ _ _ way _ (read_seen g p) there.0 c.next_slot-slot.result there.1 (next_seen g c),
+      further _ _ _ _ _ _ _ way _ (read_seen g p) there.0 c.next_slot-slot.result there.1 (next_seen g c),
     )
 
 pub returns-then-is_empty : goal.returns-then-is_empty
-returns-then-is_empty g c hashes allowed =
-    let p = (goal.at.returns-then-is_empty g c).After-is_empty in
-    rw (written_seen g p)
-    (is_put _ _ _ _ _ _ _ (c.loop-was.invariant.way hashes allowed) (sym (c.is_empty.ensures.0 c.if-is_empty.true) ∙ told g p))
+returns-then-is_empty g c hashes allowed = rw (map-set g.S.StoredSlot.stands_for c.loop-was.slots c.loop-was.slot c.loop-was.entry)
+    (is_put _ _ _ _ _ _ _ (c.loop-was.invariant.way hashes allowed) _ (read_seen g (goal.at.returns-then-is_empty g c).After-is_empty)
+    (sym (ap position_in c.widened.ensures.value) ∙ c.is_empty.ensures.0 c.if-is_empty.true))
