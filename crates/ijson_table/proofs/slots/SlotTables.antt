@@ -7,7 +7,7 @@ use Rattle.std.proofs.lemmas.List.Elements.{All-from_get_or}
 use Rattle.std.proofs.Math.ListN.{get_or-append}
 use Rattle.std.proofs.Math.Seq.{get_or-append_seam}
 use Rattle.ijson_table.specs.declared.slot.Slot.{Slot}
-use Rattle.ijson_table.specs.Slots.{times, below, IsTable}
+use Rattle.ijson_table.specs.Slots.{resident, times, below, IsTable}
 use Rattle.ijson_table.specs.private.Holds.{with_one, HasEmpty, Holds}
 use Rattle.ijson_table.specs.private.Insertion.{Accepts, IsTableOf}
 use Rattle.ijson_table.specs.private.KeptHash.{kept}
