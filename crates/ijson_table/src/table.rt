@@ -492,9 +492,6 @@ impl<V: Drop, H: KeyHash> PairStore<V> for Table<V, H> {
     }
 
     fn swap_out(&mut self, index: usize) -> (IString, V) {
-        if index + 1 == self.pairs.len() {
-            return self.shift_out(index);
-        }
         self.slots.swap_remove::<V, H>(&self.pairs, index);
         self.pairs.swap_remove(index)
     }

@@ -1,8 +1,8 @@
 -- A list of numbers with one removed, and the last one in its place.
-use Rattle.std.proofs.Common.{◌≡◌, ◌≢◌, ℕ, ◌+◌, ◌-◌, ◌<◌, arith, List, length, get_or, set, ◌∙◌, get_or-set_other, get_or-set_same}
-use Rattle.std.proofs.Common.{length-take}
-use Rattle.std.specs.List.{swap_remove}
-use Rattle.std.proofs.lemmas.List.{get_or-take, length-set}
+use Rattle.std.proofs.Common.{◌≡◌, ◌≢◌, ℕ, suc, ◌+◌, ◌-◌, ◌<◌, arith, List, ◌++◌, length, get_or, set, take, ap, sym, ◌∙◌}
+use Rattle.std.proofs.Common.{append-nil, get_or-set_other, get_or-set_same, length-take}
+use Rattle.std.specs.List.{remove, swap_remove}
+use Rattle.std.proofs.lemmas.List.{drop_all, get_or-take, length-set, take-set}
 
 -- the list is one shorter
 pub length-swap_remove : (xs : List ℕ) (i : ℕ) → i < length xs → length (swap_remove xs i 0) + 1 ≡ length xs
@@ -21,3 +21,11 @@ pub swap_remove-other : (xs : List ℕ) (i j : ℕ) → i < length xs → j + 1 
 swap_remove-other xs i j li lj ne =
     get_or-take (length xs - 1) (set xs i (get_or xs (length xs - 1) 0)) j 0 (omega arith)
     ∙ get_or-set_other xs i j (get_or xs (length xs - 1) 0) 0 ne
+
+-- the last one is removed as by a shift
+pub swap_remove-last : (xs : List ℕ) (i : ℕ) → i + 1 ≡ length xs → swap_remove xs i 0 ≡ remove xs i
+swap_remove-last xs i e =
+    let v : ℕ = get_or xs (length xs - 1) 0 in
+    let same : length xs - 1 ≡ i = omega (arith, e) in
+    ap (λ n. take n (set xs i v)) same
+    ∙ (take-set xs i v ∙ (sym (append-nil (take i xs)) ∙ ap (λ ys. take i xs ++ ys) (sym (drop_all (suc i) xs (omega (arith, e))))))

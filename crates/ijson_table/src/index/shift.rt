@@ -124,12 +124,15 @@ impl Slots {
     /// Removes index `position` and gives its number to the last one.
     pub fn swap_remove<V, H: KeyHash>(&mut self, pairs: &[(IString, V)], position: usize)
         requires table { IsTableOf (map H.hash_of (keys_of pairs.now)) self.old }
-        requires within { position + 1 < length pairs.now }
+        requires within { position < length pairs.now }
         ensures table { IsTableOf (swapped_out (map H.hash_of (keys_of pairs.now)) position 0) self.new }
         ensures count { length self.new ≡ length self.old }
     {
         take_out::<V, H>(self, pairs, position);
         let last = pairs.len() - 1;
+        if position == last {
+            return;
+        }
         let modulus = Modulus::new(self.len());
         let there = slot_of(self, modulus, last, H::hash(pairs[last].0.as_str()));
         let moved = self.at(there).hash;

@@ -7,7 +7,6 @@ use Rattle.ijson_table.specs.private.Lookup.{is_key}
 use Rattle.ijson_table.specs.private.Probe.{Ends}
 use Rattle.ijson_table.proofs.pairs.KeyPositions.{position-none}
 use Rattle.ijson_table.proofs.probing.LookCount.{within_list}
-use Rattle.ijson_table.proofs.probing.KeyTests.{is_key-seeks}
 use Rattle.ijson_table.proofs.probing.ProbeEnds.{look_up_ends, bounded, found_at-ends}
 use Rattle.ijson_table.proofs.probing.ProbePath.{placed_at}
 use Rattle.ijson_table.proofs.index.places.locate.Goals.{After-probe}
@@ -50,7 +49,7 @@ returns-clause-found g c =
     let key : List ℕ = c.args.key.now in
     let some : 0 < length (p.slots table) = omega (arith, c.if-count-eq0.false, c.places-count.ensures.count) in
     c.found.ensures ∙ found_at-ends (map p.hash_of keys) keys (p.slots table) (p.hash_of key) key c.probe.result
-    (look_up_ends p.hash_of keys (p.slots table) c.places-count.ensures.table key (is_key-seeks keys key) (p.distinct table) some
+    (look_up_ends p.hash_of keys (p.slots table) c.places-count.ensures.table key (p.distinct table) some
     c.probe.result (c.probe.new.looks - c.args.looks.now) (walked g (goal.at.returns-clause-found g c).After-probe))
 
 pub returns-clause-bounded : goal.returns-clause-bounded
@@ -58,6 +57,6 @@ returns-clause-bounded g c =
     let p = g.P.Places in
     let table = c.args.table.now in
     let few = bounded p.hash_of (p.keys table) (p.slots table) c.places-count.ensures.table c.args.key.now
-    (is_key-seeks (p.keys table) c.args.key.now) (p.room table) c.places-count.ensures.size c.probe.result
+    (p.room table) c.places-count.ensures.size c.probe.result
     (c.probe.new.looks - c.args.looks.now) (walked g (goal.at.returns-clause-bounded g c).After-probe) in
     search (rules, few)
