@@ -1,7 +1,7 @@
 -- The conditions for insertion into a table of the first indices.
 use Rattle.std.proofs.Common.{◌≡◌, ◌≢◌, ℕ, zero, suc, ◌-◌, ◌<◌, ◌≤◌, ◌⊎◌, inl, inr, arith, List, [], ◌∷◌, length, set, Option, Some}
 use Rattle.std.proofs.Common.{None, refl, sym, ap, ◌∙◌, get_or-set_other}
-use Rattle.std.specs.Prelude.{sum, eqb, true}
+use Rattle.std.specs.Prelude.{sum}
 use Rattle.std.proofs.lemmas.Bool.Decides.{nat_tests}
 use Rattle.std.proofs.lemmas.List.{length-set}
 use Rattle.std.proofs.lemmas.List.Sums.{sum_by-set}
@@ -92,17 +92,3 @@ not_round displacements n h e lh le none passed =
     let there : onward n h (distance n h e) ≡ e = onward-distance n h e lh le in
     let far = passed.far (distance n h e) (distance-below n h e lh le) in
     omega (arith, far, ap displacements there, none)
-
--- the distance from an earlier home slot
-pub distance-on : (n h p : ℕ) → h ≤ p → p - h ≡ distance n h p
-unfolding distance
-distance-on n h p le = grind (arith, nat_tests)
-
--- the distance from a later home slot, around the end
-pub distance-over : (n h p : ℕ) → p < h → h < n → n - (h - p) ≡ distance n h p
-unfolding distance
-distance-over n h p lt lh = grind (arith, nat_tests)
-
--- a number equals itself
-pub eqb-self : (n : ℕ) → eqb n n ≡ true
-eqb-self n = grind (arith, nat_tests)

@@ -1,7 +1,7 @@
 -- Stored slots, as a list of slots.
-use Rattle.std.proofs.Common.{◌≡◌, ◌≤◌, ◌∙◌, ℕ, zero, suc, List, [], ◌∷◌, None, map, take, set, length, replicate, ap, refl, subst, sym}
+use Rattle.std.proofs.Common.{◌≡◌, ◌∙◌, ℕ, zero, suc, List, [], ◌∷◌, None, map, take, set, replicate, ap, refl, subst, sym}
 use Rattle.std.specs.List.{All}
-use Rattle.std.proofs.lemmas.List.{length-map, length-take-le, map-set, take-map}
+use Rattle.std.proofs.lemmas.List.{map-set, take-map}
 use Rattle.std.proofs.lemmas.List.Elements.{All-map, All-replicate, All-take}
 use Rattle.ijson_table.specs.declared.slot.Slot.{Slot}
 use Rattle.ijson_table.specs.declared.slot.narrow.NarrowSlot.{NarrowSlot}
@@ -25,10 +25,6 @@ narrow-set slots i narrow slot same =
 pub few-set : (n : ℕ) (slots : List NarrowSlot) (i : ℕ) (narrow : NarrowSlot) (slot : Slot) → widened narrow ≡ slot
     → map widened (take n (set slots i narrow)) ≡ set (map widened (take n slots)) i slot
 few-set n slots i narrow slot same = ap (map widened) (take_set n i slots narrow) ∙ narrow-set (take n slots) i narrow slot same
-
--- the number of the first slots
-pub few-length : (n : ℕ) (slots : List NarrowSlot) → n ≤ length slots → length (map widened (take n slots)) ≡ n
-few-length n slots le = length-map (take n slots) widened ∙ length-take-le n slots le
 
 -- all of them are empty
 abbrev pub IsEmpty : List Slot → Type 0

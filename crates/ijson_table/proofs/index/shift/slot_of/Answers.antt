@@ -1,4 +1,4 @@
-use Rattle.std.proofs.Common.{◌≡◌, ℕ, ◌%◌, ◌-◌, ◌≤◌, ◌⊎◌, List, length, Option, true, false, Bool, eqb, arith, ap, subst, sym, ◌∙◌}
+use Rattle.std.proofs.Common.{◌≡◌, ℕ, ◌%◌, ◌-◌, ◌≤◌, ◌⊎◌, List, length, Option, false, eqb, arith, ap, subst, ◌∙◌}
 use Rattle.std.proofs.Common.{inl, inr}
 use Rattle.ijson_table.specs.declared.slot.Slot.{Slot}
 use Rattle.ijson_table.specs.Slots.{displacement, resident}
@@ -8,7 +8,7 @@ use Rattle.ijson_table.specs.declared.index.probe.Probed.TheVariants.{Found, Vac
 use Rattle.ijson_table.specs.private.Insertion.{Stands}
 use Rattle.ijson_table.specs.private.Probe.{onward, PassedOthers, Ends}
 use Rattle.ijson_table.proofs.arithmetic.Circular.{onward-below}
-use Rattle.ijson_table.proofs.shifting.Insertion.{eqb-self}
+use Rattle.std.proofs.lemmas.Bool.Decides.{nat_tests}
 use Rattle.ijson_table.proofs.shifting.Vacancy.{home_here}
 use Rattle.ijson_table.proofs.slots.HashesInSlots.{positions-length, displacement-in}
 use Rattle.ijson_table.proofs.probing.CrowdBound.{home-below}
@@ -26,8 +26,7 @@ missed hashes slots position hash m s others ended =
     let by = passed_by hashes ps s.ordered position s.stands.0 m s.stands.1 s.stands.2
     (subst (λ h. (length ps ≤ m) ⊎ (displacement hashes ps (onward (length ps) h m) ≤ m)) home ended) in
     let no_it_is : eqb position position ≡ false = others by.0 position by.1 (ap (λ h. resident ps (onward (length ps) h by.0)) home ∙ by.2) in
-    let bad : ◌≡◌ {A = Bool} true false = sym (eqb-self position) ∙ no_it_is in
-    cc
+    grind (arith, nat_tests, no_it_is)
 
 -- so it finds the index
 no_other : (hashes : List ℕ) (slots : List Slot) (position hash looks : ℕ) → Stands hashes slots position hash
