@@ -124,4 +124,4 @@ absent hash keys slots t key m some passed others ended i li same =
     let home : home_of hash n key ≡ home_at n (map hash keys) i = sym (home-key hash n keys i li ∙ ap (home_of hash n) same) in
     let by = passed_by (map hash keys) slots t.ordered i spot.0 m spot.1 spot.2
     (subst (λ h. (n ≤ m) ⊎ (displacement (map hash keys) slots (onward n h m) ≤ m)) home ended) in
-    others by.0 i by.1 (ap (λ h. resident slots (onward n h by.0)) home ∙ by.2) same
+    others by.0 i by.1 (subst (λ h. resident slots (onward n h by.0) ≡ Some i) (sym home) by.2) same

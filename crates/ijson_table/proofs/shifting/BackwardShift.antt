@@ -4,59 +4,20 @@ use Rattle.std.proofs.Common.{◌∙◌, get_or-set_other, get_or-set_same}
 use Rattle.std.proofs.lemmas.List.{length-set}
 use Rattle.std.proofs.lemmas.Bool.{cases_eq}
 use Rattle.ijson_table.specs.Crowd.{distance}
-use Rattle.ijson_table.specs.private.Holds.{one_if, HasGap}
+use Rattle.ijson_table.specs.private.Holds.{one_if}
 use Rattle.ijson_table.specs.Slots.{after, displacement, resident, home_at, times, IsOrdered}
-use Rattle.ijson_table.proofs.arithmetic.Circular.{after-below, after-injective, distance-back}
+use Rattle.ijson_table.proofs.arithmetic.Circular.{after-below, distance-back}
 use Rattle.ijson_table.proofs.slots.Residents.{times-set}
-use Rattle.ijson_table.proofs.probing.ProbePath.{displacement-some, displacement-none}
+use Rattle.ijson_table.proofs.probing.ProbePath.{displacement-some}
 use Rattle.ijson_table.proofs.probing.CrowdBound.{home-below}
-use Rattle.ijson_table.proofs.shifting.SlotWrites.{displacement-set_other, displacement-set_same}
+use Rattle.ijson_table.proofs.shifting.SlotWrites.{displacement-set_other, displacement-set_same, ordered_but}
 
--- a resident is removed
-pub gap_from : (hashes : List ℕ) (slots : List (Option ℕ)) (p : ℕ) → p < length slots → IsOrdered hashes slots
-    → HasGap hashes (set slots p None) p
-gap_from hashes slots p lp ordered =
-    let n : ℕ = length slots in
-    let slots' : List (Option ℕ) = set slots p None in
-    let size : length slots' ≡ n = length-set slots p None in
-    let zeroed : displacement hashes slots' p ≡ 0 = displacement-set_same hashes slots p None lp in
-    let less : (q : ℕ) → displacement hashes slots' q ≤ displacement hashes slots q = λ q. elim (cases_eq q p) [
-      | inl self ↦ omega (arith, zeroed, ap (displacement hashes slots') self)
-      | inr other ↦ omega (arith, displacement-set_other hashes slots p q None other)
-    ] in
-    record {
-      within = omega (arith, lp, size);
-      empty = get_or-set_same slots p None None lp;
-      ordered = λ q lq ne. omega (
-        arith,
-        ordered q (omega arith),
-        displacement-set_other hashes slots p q None ne,
-        less (after n q),
-        ap
-            (λ k. displacement hashes slots' (after k q)) size,
-      );
-      behind = λ q lq at.
-          let was : displacement hashes slots (after n q) ≤ displacement hashes slots q + 1 = ordered q (omega arith) in
-          let here : after n q ≡ p = ap (λ k. after k q) (sym size) ∙ at in
-          let eq : displacement hashes slots (after n q) ≡ displacement hashes slots p = ap (displacement hashes slots) here in
-          let next : displacement hashes slots (after n p) ≤ displacement hashes slots p + 1 = ordered p lp in
-          let shrunk : displacement hashes slots' (after n p) ≤ displacement hashes slots (after n p) = less (after n p) in
-          let q_same : displacement hashes slots' (after n p) ≤ displacement hashes slots' q + 2 = elim (cases_eq q p) [
-            | inl self ↦ let loop : after n p ≡ p = ap (after n) (sym self) ∙ here in
-                omega (arith, zeroed, ap (displacement hashes slots') loop)
-            | inr other ↦ let same : displacement hashes slots' q ≡ displacement hashes slots q =
-                displacement-set_other hashes slots p q None other in omega arith
-          ] in
-          omega (arith, q_same, ap (λ k. displacement hashes slots' (after k p)) size);
-    }
-
--- the shift ends before an empty slot, and before a resident at its home slot
-pub gap_closed : (hashes : List ℕ) (slots : List (Option ℕ)) (p : ℕ) → p < length slots → HasGap hashes slots p
-    → displacement hashes slots (after (length slots) p) ≤ 1 → IsOrdered hashes slots
-gap_closed hashes slots p lp gap end q lq = elim (cases_eq q p) [
-  | inl self ↦ omega (arith, end, ap (λ k. displacement hashes slots (after (length slots) k)) self)
-  | inr other ↦ gap.ordered q lq other
-]
+-- Slots with a gap at p: some slots in order, without the resident of p.
+pub record HasGap (hashes : List ℕ) (slots : List (Option ℕ)) (p : ℕ) : Type 0 where
+  pub whole : List (Option ℕ)
+  pub is : slots ≡ set whole p None
+  pub within : p < length whole
+  pub ordered : IsOrdered hashes whole
 
 -- The sum over the slots, a measure for the termination of the shift.
 pub total : (ℕ → ℕ) → ℕ → ℕ
@@ -82,117 +43,114 @@ total-one f g (suc n) p lp h = elim (cases_eq p n) [
 pub all_displacements : List ℕ → List (Option ℕ) → ℕ
 all_displacements hashes slots = total (displacement hashes slots) (length slots)
 
--- A step of the shift: the resident of the next slot, which is not at home, moves to an empty one, and leaves a gap.
-module _ (hashes : List ℕ) (slots : List (Option ℕ)) (p k : ℕ) (lp : p < length slots) (empty : resident slots p ≡ None)
-    (there : resident slots (after (length slots) p) ≡ Some k) (far : 1 < displacement hashes slots (after (length slots) p)) where
+module _ (hashes : List ℕ) (slots : List (Option ℕ)) (p : ℕ) (gap : HasGap hashes slots p) where
   abbrev n : ℕ
   n = length slots
 
   abbrev p' : ℕ
   p' = after n p
 
-  abbrev mid : List (Option ℕ)
-  mid = set slots p (Some k)
+  abbrev d : ℕ → ℕ
+  d = displacement hashes slots
 
-  abbrev last : List (Option ℕ)
-  last = set mid p' None
+  abbrev full : ℕ → ℕ
+  full = displacement hashes gap.whole
 
-  behind_within : p' < n
-  behind_within = after-below n p lp
+  size : length gap.whole ≡ n
+  size = sym (ap length gap.is ∙ length-set gap.whole p None)
 
-  size_mid : length mid ≡ n
-  size_mid = length-set slots p (Some k)
+  pub gap_within : p < n
+  gap_within = omega (arith, gap.within, size)
 
-  size_last : length last ≡ n
-  size_last = length-set mid p' None ∙ size_mid
+  ordered : (q : ℕ) → q < n → full (after n q) ≤ full q + 1
+  ordered q lq = omega (arith, gap.ordered q (omega (arith, lq, size)), ap (λ m. full (after m q)) size)
 
-  hollow : displacement hashes slots p ≡ 0
-  hollow = displacement-none hashes slots p empty
+  hollow : d p ≡ 0
+  hollow = ap (λ s. displacement hashes s p) gap.is ∙ displacement-set_same hashes gap.whole p None gap.within
 
-  moves : p ≢ p'
-  moves = λ e. omega (arith, ap (displacement hashes slots) e, hollow, far)
+  off : (q : ℕ) → q ≢ p → d q ≡ full q
+  off q ne = ap (λ s. displacement hashes s q) gap.is ∙ displacement-set_other hashes gap.whole p q None ne
 
-  -- the distance of the resident from its home slot, before and after
-  was : displacement hashes slots p' ≡ distance n (home_at n hashes k) p' + 1
-  was = displacement-some hashes slots p' k there
+  -- the shift ends before an empty slot, and before a resident at its home slot
+  pub gap_closed : d p' ≤ 1 → IsOrdered hashes slots
+  gap_closed end = ordered_but full d n p ordered off (omega (arith, end)) (λ q lq ne to. omega (arith, hollow))
 
-  nearer : distance n (home_at n hashes k) p + 1 ≡ distance n (home_at n hashes k) p'
-  nearer = distance-back n (home_at n hashes k) p (home-below n hashes k (omega (arith, lp))) lp (omega (arith, was, far))
+  -- A step of the shift: the resident of the next slot, which is not at home, moves to the gap, and leaves one.
+  module _ (k : ℕ) (there : resident slots p' ≡ Some k) (far : 1 < d p') where
+    abbrev mid : List (Option ℕ)
+    mid = set slots p (Some k)
 
-  -- the slot that it moved to
-  at_mid : displacement hashes mid p ≡ distance n (home_at n hashes k) p + 1
-  at_mid = displacement-set_same hashes slots p (Some k) lp
+    abbrev last : List (Option ℕ)
+    last = set mid p' None
 
-  -- and the slot that it left
-  at_last : displacement hashes last p' ≡ 0
-  at_last = displacement-set_same hashes mid p' None (omega (arith, size_mid, behind_within))
+    abbrev d_mid : ℕ → ℕ
+    d_mid = displacement hashes mid
 
-  -- then the order is relaxed at the next slot
-  pub moved_back : HasGap hashes slots p → HasGap hashes last p'
-  moved_back gap =
-      let at_p : displacement hashes last p + 1 ≡ displacement hashes slots p' =
-      omega (arith, displacement-set_other hashes mid p' p None moves, at_mid, was, nearer) in
-      let off : (q : ℕ) → q ≢ p → q ≢ p' → displacement hashes last q ≡ displacement hashes slots q =
-      λ q a b. displacement-set_other hashes mid p' q None b ∙ displacement-set_other hashes slots p q (Some k) a in
-      let off_up : (q : ℕ) → q ≢ p → displacement hashes last q ≤ displacement hashes slots q = λ q a. elim (cases_eq q p') [
-        | inl at ↦ omega (arith, at_last, ap (displacement hashes last) at)
-        | inr other ↦ omega (arith, off q a other)
-      ] in
-      record {
-        within = omega (arith, behind_within, size_last);
-        empty = get_or-set_same mid p' None None (omega (arith, behind_within, size_mid));
-        ordered = λ q lq ne.
-            let lq' : q < n = omega (arith, lq, size_last) in
-            let goal : displacement hashes last (after n q) ≤ displacement hashes last q + 1 = elim (cases_eq q p) [
-              | inl self ↦ let to : after n q ≡ p' = ap (after n) self in omega (arith, at_last, ap (displacement hashes last) to)
-              | inr other ↦
-                  let same : displacement hashes last q ≡ displacement hashes slots q = off q other ne in
-                  elim (cases_eq (after n q) p) [
-                    | inl before ↦ omega (arith, gap.behind q lq' before, at_p, ap (displacement hashes last) before)
-                    | inr elsewhere ↦ omega (arith, gap.ordered q lq' other, off_up (after n q) elsewhere)
-                  ]
-            ] in
-            omega (arith, goal, ap (λ s. displacement hashes last (after s q)) size_last);
-        behind = λ q lq at.
-            let lq' : q < n = omega (arith, lq, size_last) in
-            let self : q ≡ p = after-injective n q p lq' lp (ap (λ s. after s q) (sym size_last) ∙ at) in
-            let here : displacement hashes last q ≡ displacement hashes last p = ap (displacement hashes last) self in
-            let goal : displacement hashes last (after n p') ≤ displacement hashes last p + 2 = elim (cases_eq (after n p') p) [
-              | inl round ↦ omega (arith, ap (displacement hashes last) round)
-              | inr other ↦ omega (arith, gap.ordered p' behind_within (λ e. moves (sym e)), off_up (after n p') other, at_p)
-            ] in
-            omega (arith, goal, here, ap (λ s. displacement hashes last (after s p')) size_last);
-      }
+    size_mid : length mid ≡ n
+    size_mid = length-set slots p (Some k)
 
-  -- the count of each index is unchanged
-  pub times-moved_back : (i : ℕ) → times i last ≡ times i slots
-  times-moved_back i =
-      let mid_p' : resident mid p' ≡ Some k = get_or-set_other slots p p' (Some k) None (λ e. moves (sym e)) ∙ there in
-      omega (
-        arith,
-        times-set i slots p (Some k) lp,
-        times-set i mid p' None (omega (arith, behind_within, size_mid)),
-        ap (one_if i) empty,
-        ap (one_if i) mid_p',
-      )
+    behind_within : p' < length mid
+    behind_within = omega (arith, after-below n p gap_within, size_mid)
 
-  -- and the total of the displacements is less
-  pub shift_falls : all_displacements hashes last < all_displacements hashes slots
-  unfolding all_displacements
-  shift_falls =
-      let one = total-one (displacement hashes slots) (displacement hashes mid) n p lp
-      (λ q ne. displacement-set_other hashes slots p q (Some k) ne) in
-      let two = total-one (displacement hashes mid) (displacement hashes last) n p' behind_within
-      (λ q ne. displacement-set_other hashes mid p' q None ne) in
-      omega (
-        arith,
-        one,
-        two,
-        hollow,
-        was,
-        nearer,
-        at_mid,
-        at_last,
-        displacement-set_other hashes slots p p' (Some k) (λ e. moves (sym e)),
-        ap (total (displacement hashes last)) size_last,
-      )
+    moves : p' ≢ p
+    moves = λ e. omega (arith, ap d e, hollow, far)
+
+    -- the displacements of the resident, before and after
+    was : d p' ≡ distance n (home_at n hashes k) p' + 1
+    was = displacement-some hashes slots p' k there
+
+    nearer : d_mid p + 1 ≡ d p'
+    nearer = omega (
+      arith,
+      displacement-set_same hashes slots p (Some k) gap_within,
+      distance-back n (home_at n hashes k) p (home-below n hashes k (omega (arith, gap_within))) gap_within (omega (arith, was, far)),
+      was,
+    )
+
+    others : (q : ℕ) → q ≢ p → d_mid q ≡ d q
+    others q ne = displacement-set_other hashes slots p q (Some k) ne
+
+    in_order : (q : ℕ) → q < n → d_mid (after n q) ≤ d_mid q + 1
+    in_order = ordered_but full d_mid n p ordered (λ q ne. others q ne ∙ off q ne) (omega (arith, nearer, others p' moves)) (λ q lq ne to. omega (
+      arith,
+      nearer,
+      off p' moves,
+      ordered q lq,
+      ordered p gap_within,
+      off q ne,
+      others q ne,
+      ap full to,
+    ))
+
+    pub moved_back : HasGap hashes last p'
+    moved_back = record {
+      whole = mid;
+      is = refl;
+      within = behind_within;
+      ordered = λ q lq. omega (arith, in_order q (omega (arith, lq, size_mid)), ap (λ m. d_mid (after m q)) size_mid);
+    }
+
+    -- the count of each index is unchanged
+    pub times-moved_back : (i : ℕ) → times i last ≡ times i slots
+    times-moved_back i = omega (
+      arith,
+      times-set i slots p (Some k) gap_within,
+      times-set i mid p' None behind_within,
+      ap (one_if i) (ap (λ s. resident s p) gap.is ∙ get_or-set_same gap.whole p None None gap.within),
+      ap (one_if i) (get_or-set_other slots p p' (Some k) None moves ∙ there),
+    )
+
+    -- and the total of the displacements is less
+    pub shift_falls : all_displacements hashes last < all_displacements hashes slots
+    unfolding all_displacements
+    shift_falls = omega (
+      arith,
+      total-one d d_mid n p gap_within others,
+      total-one d_mid (displacement hashes last) n p' (omega (arith, behind_within, size_mid))
+          (λ q ne. displacement-set_other hashes mid p' q None ne),
+      hollow,
+      nearer,
+      others p' moves,
+      displacement-set_same hashes mid p' None behind_within,
+      ap (total (displacement hashes last)) (length-set mid p' None ∙ size_mid),
+    )

@@ -1,21 +1,19 @@
 -- The conditions for insertion into a table of the first indices.
-use Rattle.std.proofs.Common.{◌≡◌, ◌≢◌, ℕ, zero, suc, ◌+◌, ◌-◌, ◌<◌, ◌≤◌, ◌⊎◌, inl, inr, arith, List, [], ◌∷◌, length, set, Option, Some}
-use Rattle.std.proofs.Common.{None, refl, sym, ap, subst, ◌∙◌, get_or-set_other}
-use Rattle.std.specs.Prelude.{sum, ltb, eqb, true, if◌then◌else◌}
+use Rattle.std.proofs.Common.{◌≡◌, ◌≢◌, ℕ, zero, suc, ◌-◌, ◌<◌, ◌≤◌, ◌⊎◌, inl, inr, arith, List, [], ◌∷◌, length, set, Option, Some}
+use Rattle.std.proofs.Common.{None, refl, sym, ap, ◌∙◌, get_or-set_other}
+use Rattle.std.specs.Prelude.{sum, eqb, true}
 use Rattle.std.proofs.lemmas.Bool.Decides.{nat_tests}
 use Rattle.std.proofs.lemmas.List.{length-set}
 use Rattle.std.proofs.lemmas.List.Sums.{sum_by-set}
 use Rattle.std.proofs.lemmas.Bool.{cases_lt}
 use Rattle.ijson_table.specs.Crowd.{distance}
-use Rattle.ijson_table.specs.private.Holds.{one_if, Holds, MayStand, HasEmpty}
+use Rattle.ijson_table.specs.private.Holds.{MayStand, HasEmpty}
 use Rattle.ijson_table.specs.Slots.{after, displacement, resident, home_at, times, below}
 use Rattle.ijson_table.specs.private.Probe.{onward, Passed}
 use Rattle.ijson_table.proofs.arithmetic.Circular.{after-injective, onward-below, after-onward, distance-below, distance-onward}
 use Rattle.ijson_table.proofs.arithmetic.Circular.{onward-distance}
 use Rattle.ijson_table.proofs.arithmetic.Counting.{covers}
 use Rattle.ijson_table.proofs.slots.Residents.{times-some, stands_once}
-use Rattle.ijson_table.proofs.probing.ProbePath.{displacement-none}
-use Rattle.ijson_table.proofs.shifting.SlotWrites.{put_down, taken_up}
 use Rattle.ijson_table.proofs.probing.LookCount.{ones, sum-ones, one-at, length-ones}
 
 -- if each slot has a resident, so has each slot but the first
@@ -33,14 +31,6 @@ empty_or_full (Some i ∷ slots) = elim (empty_or_full slots) [
   | inl found ↦ inl (suc found.0, omega (arith, found.1), found.2)
   | inr full ↦ inr (later i slots full)
 ]
-
--- a resident is one of the first indices
-pub held_below : (count : ℕ) (pending : Option ℕ) (slots : List (Option ℕ))
-    → ((i : ℕ) → times i slots + one_if i pending ≡ (if ltb i count then 1 else 0)) → (p i : ℕ) → p < length slots
-    → resident slots p ≡ Some i → i < count
-held_below count pending slots placed p i lp e =
-    let some = times-some i slots p lp e in
-    grind (arith, nat_tests, placed i, some)
 
 -- If the slots hold only first indices, none of them twice, and one of them not at all, there is an empty slot.
 pub some_empty : (slots : List (Option ℕ)) (count k : ℕ) → ((i : ℕ) → times i slots ≤ below count i) → k < count → times k slots ≡ 0
@@ -102,60 +92,6 @@ not_round displacements n h e lh le none passed =
     let there : onward n h (distance n h e) ≡ e = onward-distance n h e lh le in
     let far = passed.far (distance n h e) (distance-below n h e lh le) in
     omega (arith, far, ap displacements there, none)
-
--- the invariant of the shift
-pub record Shifting (hashes : List ℕ) (wanted : ℕ → ℕ) (pending slot step : ℕ) (slots : List (Option ℕ)) : Type 0 where
-  pub held : Holds hashes wanted (Some pending) slots
-  pub may : MayStand hashes slots pending slot
-  pub ahead : (e : ℕ) × (e < length slots) × (resident slots e ≡ None) × (step + distance (length slots) slot e < length slots)
-
--- the next slot is one closer
-distance-next : (n p e : ℕ) → p < n → e < n → p ≢ e → distance n (after n p) e + 1 ≡ distance n p e
-unfolding distance after
-distance-next n p e lp le ne = grind (arith, nat_tests)
-
--- an empty slot is ahead of a resident
-ahead_of : (slots : List (Option ℕ)) (slot e next : ℕ) → resident slots e ≡ None → resident slots slot ≡ Some next → e ≢ slot
-ahead_of slots slot e next empty there = λ same. let bad : ◌≡◌ {A = Option ℕ} (Some next) None =
-    sym there ∙ (ap (resident slots) (sym same) ∙ empty) in cc
-
--- if the slot has a resident, the shift continues
-pub goes_on : (hashes : List ℕ) (wanted : ℕ → ℕ) (pending slot step next : ℕ) (slots : List (Option ℕ))
-    → Shifting hashes wanted pending slot step slots → resident slots slot ≡ Some next → step + 1 < length slots
-goes_on hashes wanted pending slot step next slots s there =
-    let e : ℕ = s.ahead.0 in
-    let apart : e ≢ slot = ahead_of slots slot e next s.ahead.2 there in
-    omega (arith, s.ahead.3, distance-next (length slots) slot e s.may.within s.ahead.1 (λ same. apart (sym same)))
-
--- one iteration of the shift
-pub shift_more : (hashes : List ℕ) (wanted : ℕ → ℕ) (pending slot step next : ℕ) (slots : List (Option ℕ))
-    → Shifting hashes wanted pending slot step slots
-    → resident slots slot ≡ Some next → Shifting hashes wanted next (after (length slots) slot) (step + 1) (set slots slot (Some pending))
-shift_more hashes wanted pending slot step next slots s there =
-    let n : ℕ = length slots in
-    let e : ℕ = s.ahead.0 in
-    let size : length (set slots slot (Some pending)) ≡ n = length-set slots slot (Some pending) in
-    let apart : e ≢ slot = ahead_of slots slot e next s.ahead.2 there in
-    let empty : displacement hashes slots e ≡ 0 = displacement-none hashes slots e s.ahead.2 in
-    let put : Holds hashes wanted (resident slots slot) (set slots slot (Some pending)) =
-    put_down hashes wanted slots pending slot s.may.within s.held s.may in
-    record {
-      held = subst (λ o. Holds hashes wanted o (set slots slot (Some pending))) there put;
-      may = taken_up hashes slots pending next slot e s.may.within s.ahead.1 s.held.ordered empty there s.may.further;
-      ahead = (
-        e,
-        omega (arith, s.ahead.1, size),
-        get_or-set_other slots slot e (Some pending) None apart ∙ s.ahead.2,
-        omega (
-          arith,
-          distance-next n slot e s.may.within s.ahead.1 (λ x. apart (sym x)),
-          s.ahead.3,
-          ap
-              (λ k. distance k (after n slot) e) size,
-          size,
-        ),
-      );
-    }
 
 -- the distance from an earlier home slot
 pub distance-on : (n h p : ℕ) → h ≤ p → p - h ≡ distance n h p

@@ -8,11 +8,11 @@ use Rattle.std.specs.List.{remove, swap_remove}
 use Rattle.std.proofs.lemmas.List.Edits.{length-remove, get_or-remove_below}
 use Rattle.std.proofs.lemmas.Bool.{cases_eq, cases_lt}
 use Rattle.ijson_table.specs.declared.slot.Slot.{Slot}
-use Rattle.ijson_table.specs.private.Holds.{one_if, Holds}
+use Rattle.ijson_table.specs.private.Holds.{one_if}
 use Rattle.ijson_table.specs.private.Insertion.{IsTableBut, IsTableOf}
 use Rattle.ijson_table.specs.private.KeptHash.{kept}
 use Rattle.ijson_table.specs.private.SlotHashes.{blank, position_in, positions, HasHash, HaveHashes}
-use Rattle.ijson_table.specs.Slots.{after, displacement, resident, home_at, times, IsOrdered, IsTable, displaced, below}
+use Rattle.ijson_table.specs.Slots.{after, displacement, resident, home_at, times, IsOrdered, IsTable, displaced}
 use Rattle.ijson_table.proofs.arithmetic.Circular.{after-below}
 use Rattle.ijson_table.proofs.slots.HashesInSlots.{has_own_hash, hashes-as, hashes-at, hashes-put, position-at, positions-length, positions-put}
 use Rattle.ijson_table.proofs.slots.Residents.{stands, stands_once, times-set, times-some}
@@ -160,10 +160,9 @@ times-none i slots empty = elim (cases_lt 0 (times i slots)) [
 ]
 
 -- empty slots are a table of nothing
-pub holds_none : (hashes : List ℕ) (slots : List (Option ℕ)) → ((p : ℕ) → p < length slots → resident slots p ≡ None)
-    → Holds hashes (below 0) None slots
-holds_none hashes slots empty = record {
+pub empty_is_table : (slots : List (Option ℕ)) → ((p : ℕ) → p < length slots → resident slots p ≡ None) → IsTable [] slots
+empty_is_table slots empty = record {
   ordered = λ p lp. let up = after-below (length slots) p lp in
-      omega (arith, displacement-none hashes slots (after (length slots) p) (empty (after (length slots) p) up));
+      omega (arith, displacement-none [] slots (after (length slots) p) (empty (after (length slots) p) up));
   placed = λ i. grind (arith, nat_tests, times-none i slots empty);
 }

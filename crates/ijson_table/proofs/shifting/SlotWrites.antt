@@ -27,6 +27,17 @@ module _ (hashes : List ℕ) (slots : List (Option ℕ)) where
   displacement-set_other p q o ne = ap (λ n. displaced n hashes q (resident (set slots p o) q)) (length-set slots p o)
       ∙ ap (displaced (length slots) hashes q) (get_or-set_other slots p q o None ne)
 
+-- values that change at one slot stay in order if they are in order there
+pub ordered_but : (f g : ℕ → ℕ) (n p : ℕ) → ((q : ℕ) → q < n → f (after n q) ≤ f q + 1) → ((q : ℕ) → q ≢ p → g q ≡ f q)
+    → g (after n p) ≤ g p + 1 → ((q : ℕ) → q < n → q ≢ p → after n q ≡ p → g p ≤ g q + 1) → (q : ℕ) → q < n → g (after n q) ≤ g q + 1
+ordered_but f g n p ordered same next before q lq = elim (cases_eq q p) [
+  | inl self ↦ omega (arith, next, ap g self, ap (λ r. g (after n r)) self)
+  | inr other ↦ elim (cases_eq (after n q) p) [
+    | inl to ↦ omega (arith, before q lq other to, ap g to)
+    | inr away ↦ omega (arith, ordered q lq, same q other, same (after n q) away)
+  ]
+]
+
 -- a slot may be written with a greater displacement, if it is at most one more than that of the previous slot
 raised : (hashes : List ℕ) (slots : List (Option ℕ)) (p : ℕ) (o : Option ℕ) → p < length slots → IsOrdered hashes slots
     → displacement hashes slots p ≤ displacement hashes (set slots p o) p
@@ -34,32 +45,19 @@ raised : (hashes : List ℕ) (slots : List (Option ℕ)) (p : ℕ) (o : Option �
     → IsOrdered hashes (set slots p o)
 raised hashes slots p o lp ordered more bound q lq =
     let n : ℕ = length slots in
-    let slots' : List (Option ℕ) = set slots p o in
-    let size : length slots' ≡ n = length-set slots p o in
-    let lq' : q < n = omega arith in
-    let goal : displacement hashes slots' (after n q) ≤ displacement hashes slots' q + 1 = elim (cases_eq (after n q) p) [
-      | inl at ↦
-          let up : displacement hashes slots' p ≤ displacement hashes slots q + 1 = bound q lq' at in
-          let to : displacement hashes slots' (after n q) ≡ displacement hashes slots' p = ap (displacement hashes slots') at in
-          elim (cases_eq q p) [
-            | inl self ↦ let same : displacement hashes slots' q ≡ displacement hashes slots' p = ap (displacement hashes slots') self in
-                omega arith
-            | inr other ↦ let same : displacement hashes slots' q ≡ displacement hashes slots q =
-                displacement-set_other hashes slots p q o other in omega arith
-          ]
-      | inr off ↦
-          let to : displacement hashes slots' (after n q) ≡ displacement hashes slots (after n q) =
-          displacement-set_other hashes slots p (after n q) o off in
-          let was : displacement hashes slots (after n q) ≤ displacement hashes slots q + 1 = ordered q lq' in
-          elim (cases_eq q p) [
-            | inl self ↦
-                let here : displacement hashes slots' q ≡ displacement hashes slots' p = ap (displacement hashes slots') self in
-                let there : displacement hashes slots q ≡ displacement hashes slots p = ap (displacement hashes slots) self in omega arith
-            | inr other ↦ let same : displacement hashes slots' q ≡ displacement hashes slots q =
-                displacement-set_other hashes slots p q o other in omega arith
-          ]
+    let d : ℕ → ℕ = displacement hashes (set slots p o) in
+    let size : length (set slots p o) ≡ n = length-set slots p o in
+    let same : (r : ℕ) → r ≢ p → d r ≡ displacement hashes slots r = λ r ne. displacement-set_other hashes slots p r o ne in
+    let next : d (after n p) ≤ d p + 1 = elim (cases_eq (after n p) p) [
+      | inl self ↦ omega (arith, ap d self)
+      | inr away ↦ omega (arith, ordered p lp, more, same (after n p) away)
     ] in
-    omega (arith, goal, ap (λ k. displacement hashes slots' (after k q)) size)
+    omega (
+      arith,
+      ordered_but (displacement hashes slots) d n p ordered same next
+          (λ r lr ne to. omega (arith, bound r lr to, same r ne)) q (omega (arith, lq, size)),
+      ap (λ k. d (after k q)) size,
+    )
 
 -- The pending index is put where it is at least as far from its home slot as the resident, and not too far. Then that
 -- resident is pending.

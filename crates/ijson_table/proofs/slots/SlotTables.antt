@@ -1,5 +1,5 @@
 -- Slots that are a table of hashes, and one more index in them.
-use Rattle.std.proofs.Common.{◌≡◌, ℕ, ◌+◌, ◌<◌, ◌≤◌, ◌^◌, arith, List, [], ◌∷◌, ◌++◌, length, take, drop, get_or, Option, Some, None, refl}
+use Rattle.std.proofs.Common.{◌≡◌, ℕ, ◌+◌, ◌<◌, ◌^◌, arith, List, [], ◌∷◌, ◌++◌, length, take, drop, get_or, Option, Some, None, refl}
 use Rattle.std.proofs.Common.{sym, ap, subst, ◌∙◌, length-append}
 use Rattle.std.specs.List.{All}
 use Rattle.std.proofs.lemmas.Bool.Decides.{nat_tests}
@@ -7,14 +7,14 @@ use Rattle.std.proofs.lemmas.List.Elements.{All-from_get_or}
 use Rattle.std.proofs.Math.ListN.{get_or-append}
 use Rattle.std.proofs.Math.Seq.{get_or-append_seam}
 use Rattle.ijson_table.specs.declared.slot.Slot.{Slot}
-use Rattle.ijson_table.specs.Slots.{resident, times, below, IsTable}
+use Rattle.ijson_table.specs.Slots.{resident, IsTable}
 use Rattle.ijson_table.specs.private.Holds.{with_one, HasEmpty, Holds}
 use Rattle.ijson_table.specs.private.Insertion.{Accepts, IsTableOf}
 use Rattle.ijson_table.specs.private.KeptHash.{kept}
 use Rattle.ijson_table.specs.private.SlotHashes.{position_in, positions, blank, HaveHashes}
 use Rattle.ijson_table.proofs.slots.HashesInSlots.{positions-length, position-at, all_empty, hashes-none, hashes-as}
 use Rattle.ijson_table.proofs.shifting.Insertion.{some_empty}
-use Rattle.ijson_table.proofs.shifting.Removal.{holds_none, ordered-as}
+use Rattle.ijson_table.proofs.shifting.Removal.{empty_is_table, ordered-as}
 use Rattle.ijson_table.proofs.slots.Residents.{times-some}
 use Rattle.ijson_table.proofs.probing.ProbePath.{in_list}
 
@@ -31,8 +31,7 @@ whole n new old e is = ap (λ k. take k (new ++ drop (length new) old)) (is ∙ 
 -- empty slots are a table of no hashes
 pub empty_table : (slots : List Slot) → All (λ slot. position_in slot ≡ None) slots → IsTableOf [] slots
 empty_table slots empty = record {
-  table = let held = holds_none [] (positions slots) (all_empty slots empty) in
-      record { ordered = held.ordered; placed = λ i. omega (arith, held.placed i) };
+  table = empty_is_table (positions slots) (all_empty slots empty);
   hashes_are = hashes-none (length slots) [] slots empty;
 }
 

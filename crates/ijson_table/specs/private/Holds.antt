@@ -1,5 +1,5 @@
 -- Slots during an insertion or a removal.
-use Rattle.std.specs.Prelude.{◌≡◌, ◌≢◌, ℕ, ◌+◌, ◌<◌, ◌≤◌, cond, List, length, Option, Some, None}
+use Rattle.std.specs.Prelude.{◌≡◌, ℕ, ◌+◌, ◌<◌, ◌≤◌, cond, List, length, Option, Some, None}
 use Rattle.ijson_table.specs.Crowd.{distance}
 use Rattle.ijson_table.specs.Slots.{after, displacement, resident, home_at, holds, times, IsOrdered}
 
@@ -27,13 +27,3 @@ pub record MayStand (hashes : List ℕ) (slots : List (Option ℕ)) (i p : ℕ) 
   pub further : displacement hashes slots p ≤ distance (length slots) (home_at (length slots) hashes i) p + 1
   pub led_to : (q : ℕ) → q < length slots → after (length slots) q ≡ p
       → distance (length slots) (home_at (length slots) hashes i) p ≤ displacement hashes slots q
-
--- A table with a gap at p, after which the order is relaxed by one: a resident after it may be one further from its
--- home slot than a resident of p could be.
-pub record HasGap (hashes : List ℕ) (slots : List (Option ℕ)) (p : ℕ) : Type 0 where
-  pub within : p < length slots
-  pub empty : resident slots p ≡ None
-  pub ordered : (q : ℕ) → q < length slots → q ≢ p
-      → displacement hashes slots (after (length slots) q) ≤ displacement hashes slots q + 1
-  pub behind : (q : ℕ) → q < length slots → after (length slots) q ≡ p
-      → displacement hashes slots (after (length slots) p) ≤ displacement hashes slots q + 2

@@ -1,7 +1,7 @@
 use Rattle.std.proofs.Common.{◌≡◌, ◌≢◌, ◌<◌, ◌≤◌, ℕ, ◌+◌, List, length, map, get_or, set, Option, Some, None, refl, arith, ap, sym, ◌∙◌}
 use Rattle.std.proofs.Common.{rules, false, inl, inr, subst, get_or-set_other}
 use Rattle.std.proofs.lemmas.List.{length-map, length-set, map-set}
-use Rattle.std.proofs.lemmas.Bool.{cases_eq}
+use Rattle.std.proofs.lemmas.Bool.{cases_eq, cases_lt}
 use Rattle.ijson_table.specs.declared.slot.Slot.{Slot}
 use Rattle.ijson_table.specs.Crowd.{distance}
 use Rattle.ijson_table.specs.Slots.{after, resident}
@@ -11,8 +11,8 @@ use Rattle.ijson_table.specs.private.Insertion.{Accepts, IsPut}
 use Rattle.ijson_table.specs.private.Probe.{onward, AreFull}
 use Rattle.ijson_table.specs.private.SlotHashes.{position_in, positions, blank}
 use Rattle.ijson_table.proofs.arithmetic.Circular.{distance-after, distance-below, distance-self, onward-distance}
-use Rattle.ijson_table.proofs.shifting.SlotWrites.{put_down}
-use Rattle.ijson_table.proofs.shifting.Insertion.{Shifting, goes_on, shift_more}
+use Rattle.ijson_table.proofs.shifting.SlotWrites.{put_down, taken_up}
+use Rattle.ijson_table.proofs.probing.ProbePath.{displacement-none}
 use Rattle.ijson_table.proofs.slots.HashesInSlots.{positions-length, positions-put, positions-set, position-at, hashes-at, hashes-set}
 use Rattle.ijson_table.proofs.slots.HashesInSlots.{has_own_hash, seen_at}
 use Rattle.ijson_table.proofs.slots.Residents.{some_position}
@@ -47,69 +47,98 @@ module _ (hashes : List ℕ) (old : List Slot) (position from : ℕ) (slots : Li
   abbrev want : ℕ → ℕ
   want = with_one (positions old) position
 
-  -- the current slot is one of the slots
+  abbrev ps : List (Option ℕ)
+  ps = positions slots
+
+  -- the pending index may be put into the current slot,
+  abbrev pending : ℕ
+  pending = way.held.0
+
+  may : MayStand hashes ps pending slot
+  may = way.held.3
+
+  -- which is one of the slots
   here : slot < length slots
-  here = omega (arith, way.shifting.2.may.within, positions-length slots)
+  here = omega (arith, may.within, positions-length slots)
 
   within : slot < n
   within = omega (arith, here, way.size)
 
+  put : Holds hashes want (resident ps slot) (positions (set slots slot entry))
+  put = rw (positions-put slots slot entry pending way.held.1) (put_down hashes want ps pending slot may.within way.held.2 may)
+
   -- if the slot is empty, the last one is written
   is_put : None ≡ position_in (get_or slots slot blank) → IsPut hashes old position from slot (set slots slot entry)
   is_put empty =
-      let s = way.shifting in
+      let none : resident ps slot ≡ None = position-at slots slot None here empty in
       record {
-        holds = subst (Holds hashes want None) (sym (positions-put slots slot entry s.0 s.1))
-            (subst (λ o. Holds hashes want o (set (positions slots) slot (Some s.0))) (position-at slots slot None here empty)
-            (put_down hashes want (positions slots) s.0 slot s.2.may.within s.2.held s.2.may));
+        holds = subst (λ o. Holds hashes want o (positions (set slots slot entry))) none put;
         hashes_are = hashes-set n hashes slots slot entry way.has_hash way.have_hashes;
         count = length-set slots slot entry ∙ way.size;
         within = within;
-        empty = sym (way.left slot within (omega arith)) ∙ position-at slots slot None here empty;
+        empty = sym (way.left slot within (omega arith)) ∙ none;
         passed = way.passed;
         changes = one_more (positions old) slots slot (distance n from slot) entry way.changes;
       }
 
-  -- if the slot has a resident, there is a next slot,
-  room : (next : ℕ) → Some next ≡ position_in (get_or slots slot blank) → distance n from slot + 1 < n
-  room next there =
-      let more = goes_on hashes want way.shifting.0 slot (distance n from slot) next
-      (positions slots) way.shifting.2 (position-at slots slot (Some next) here there) in
-      omega (arith, more, positions-length slots, way.size)
+  -- some slot is empty, which was not passed
+  abbrev e : ℕ
+  e = way.some_empty.0
 
-  -- which is one further from the first,
-  further : (next : ℕ) → Some next ≡ position_in (get_or slots slot blank) → distance n from (after n slot) ≡ distance n from slot + 1
-  further next there = distance-after n from slot way.starts within (room next there)
+  le : e < n
+  le = omega (arith, way.some_empty.1, positions-length old)
 
-  -- and the invariant holds there.
-  goes_further : (next : ℕ) → Some next ≡ position_in (get_or slots slot blank)
-      → IsOnTheWay hashes old position from (set slots slot entry) (get_or slots slot blank) (after n slot)
-  goes_further next there =
-      let i = way.shifting in
-      let now : List Slot = set slots slot entry in
-      let more : distance n from (after n slot) ≡ distance n from slot + 1 = further next there in
-      let stood : resident (positions slots) slot ≡ Some next = position-at slots slot (Some next) here there in
-      record {
-        starts = way.starts;
-        shifting = (
-          next,
-          sym there,
-          subst (λ w. Shifting hashes want next (after n slot) w (positions now)) (sym more)
-              (subst (λ m. Shifting hashes want next (after m slot) (distance n from slot + 1) (positions now))
-              (positions-length slots ∙ way.size)
-              (subst (Shifting hashes want next (after (length (positions slots)) slot) (distance n from slot + 1))
-              (sym (positions-put slots slot entry i.0 i.1)) (shift_more hashes want i.0 slot (distance n from slot) next (positions slots) i.2 stood))),
-        );
-        changes = omega (arith, more, one_more (positions old) slots slot (distance n from slot) entry way.changes);
-        has_hash = hashes-at n hashes slots slot way.have_hashes here;
-        have_hashes = hashes-set n hashes slots slot entry way.has_hash way.have_hashes;
-        passed = passed_more (positions old) n from slot (distance n from (after n slot)) (sym (positions-length old)) way.starts within more
-            way.passed (λ none. let bad : ◌≡◌ {A = Option ℕ} (Some next) None = sym stood ∙ (way.left slot within (omega arith) ∙ none) in cc);
-        left = λ p lp away. ap (λ ps. resident ps p) (positions-set slots slot entry)
-            ∙ (get_or-set_other (positions slots) slot p (position_in entry) None (λ at. omega (arith, away, more, ap (distance n from) at))
-            ∙ way.left p lp (omega (arith, away, more)));
-        size = length-set slots slot entry ∙ way.size;
-      }
+  ahead : distance n from slot ≤ distance n from e
+  ahead = elim (cases_lt (distance n from e) (distance n from slot)) [
+    | inl early ↦ absurd (way.passed (distance n from e) early (ap (resident (positions old))
+        (ap (λ m. onward m from (distance n from e)) (positions-length old) ∙ onward-distance n from e way.starts le) ∙ way.some_empty.2))
+    | inr late ↦ late
+  ]
+
+  still_empty : resident ps e ≡ None
+  still_empty = way.left e le ahead ∙ way.some_empty.2
+
+  -- If the slot has a resident,
+  module _ (next : ℕ) (there : Some next ≡ position_in (get_or slots slot blank)) where
+    stood : resident ps slot ≡ Some next
+    stood = position-at slots slot (Some next) here there
+
+    -- there is a next slot,
+    room : distance n from slot + 1 < n
+    room = elim (cases_eq (distance n from e) (distance n from slot)) [
+      | inl same ↦
+          let at : e ≡ slot = sym (onward-distance n from e way.starts le) ∙ (ap (onward n from) same ∙ onward-distance n from slot way.starts within) in
+          let bad : ◌≡◌ {A = Option ℕ} (Some next) None = sym stood ∙ (ap (resident ps) (sym at) ∙ still_empty) in
+          absurd (cc (bad))
+      | inr other ↦ omega (arith, ahead, other, distance-below n from e way.starts le)
+    ]
+
+    -- which is one further from the first,
+    further : distance n from (after n slot) ≡ distance n from slot + 1
+    further = distance-after n from slot way.starts within room
+
+    may_next : MayStand hashes (positions (set slots slot entry)) next (after n slot)
+    may_next = rw (positions-put slots slot entry pending way.held.1)
+        (subst (λ m. MayStand hashes (set ps slot (Some pending)) next (after m slot)) (positions-length slots ∙ way.size)
+        (taken_up hashes ps pending next slot e may.within (omega (arith, le, way.size, positions-length slots)) way.held.2.ordered
+        (displacement-none hashes ps e still_empty) stood may.further))
+
+    -- and the invariant holds there
+    goes_further : IsOnTheWay hashes old position from (set slots slot entry) (get_or slots slot blank) (after n slot)
+    goes_further = record {
+      starts = way.starts;
+      some_empty = way.some_empty;
+      held = (next, sym there, subst (λ o. Holds hashes want o (positions (set slots slot entry))) stood put, may_next);
+      changes = omega (arith, further, one_more (positions old) slots slot (distance n from slot) entry way.changes);
+      has_hash = hashes-at n hashes slots slot way.have_hashes here;
+      have_hashes = hashes-set n hashes slots slot entry way.has_hash way.have_hashes;
+      passed = passed_more (positions old) n from slot (distance n from (after n slot)) (sym (positions-length old)) way.starts within further
+          way.passed (λ none. let bad : ◌≡◌ {A = Option ℕ} (Some next) None = sym stood ∙ (way.left slot within (omega arith) ∙ none) in cc);
+      left = λ p lp away. ap (λ qs. resident qs p) (positions-set slots slot entry)
+          ∙ (get_or-set_other ps slot p (position_in entry) None (λ at. omega (arith, away, further, ap (distance n from) at))
+          ∙ way.left p lp (omega (arith, away, further)));
+      size = length-set slots slot entry ∙ way.size;
+    }
 
 pub loop-was-init : goal.loop-was-init
 loop-was-init g c = record {
@@ -124,24 +153,11 @@ loop-was-init g c = record {
       let slots : List (Option ℕ) = positions stored in
       let accepts : Accepts hashes stored c.args.position c.args.hash = allowed.0 in
       let may : MayStand hashes slots c.args.position c.args.from = allowed.1 in
-      let e = accepts.empty in
       let none : distance (length stored) c.args.from c.args.from ≡ 0 = distance-self (length stored) c.args.from in
       let way : IsOnTheWay hashes stored c.args.position c.args.from stored c.of.result c.args.from = record {
         starts = omega (arith, may.within, positions-length stored);
-        shifting = (
-          c.args.position,
-          c.of.ensures.position,
-          record {
-            held = record { ordered = accepts.ordered; placed = λ i. refl };
-            may = may;
-            ahead = (
-              e.0,
-              e.1,
-              e.2,
-              omega (arith, none, distance-below (length slots) c.args.from e.0 may.within e.1),
-            );
-          },
-        );
+        some_empty = accepts.empty;
+        held = (c.args.position, c.of.ensures.position, record { ordered = accepts.ordered; placed = λ i. refl }, may);
         changes = omega (arith, changes-none slots);
         has_hash = has_own_hash (length stored) hashes c.of.result c.args.position c.of.ensures.position (c.of.ensures.hash ∙ accepts.hash_is);
         have_hashes = accepts.hashes_are;

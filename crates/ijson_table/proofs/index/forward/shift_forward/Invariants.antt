@@ -3,18 +3,18 @@ use Rattle.ijson_table.specs.declared.slot.Slot.{Slot}
 use Rattle.ijson_table.specs.Crowd.{distance}
 use Rattle.ijson_table.specs.Slots.{resident}
 use Rattle.ijson_table.specs.private.Changes.{changes}
-use Rattle.ijson_table.specs.private.Holds.{with_one}
+use Rattle.ijson_table.specs.private.Holds.{with_one, HasEmpty, Holds, MayStand}
 use Rattle.ijson_table.specs.private.Insertion.{MayPut}
 use Rattle.ijson_table.specs.private.Probe.{AreFull}
 use Rattle.ijson_table.specs.private.SlotHashes.{position_in, positions, HasHash, HaveHashes}
-use Rattle.ijson_table.proofs.shifting.Insertion.{Shifting}
 use Rattle.ijson_table.proofs.index.forward.shift_forward.Given as goal
 
 -- As many slots are written as the current one is from the first. The others are unchanged.
 pub record IsOnTheWay (hashes : List ℕ) (old : List Slot) (position from : ℕ) (slots : List Slot) (entry : Slot) (slot : ℕ) : Type 0 where
   pub starts : from < length old
-  pub shifting : (i : ℕ) × (position_in entry ≡ Some i)
-      × Shifting hashes (with_one (positions old) position) i slot (distance (length old) from slot) (positions slots)
+  pub some_empty : HasEmpty (positions old)
+  pub held : (i : ℕ) × (position_in entry ≡ Some i)
+      × Holds hashes (with_one (positions old) position) (Some i) (positions slots) × MayStand hashes (positions slots) i slot
   pub changes : changes (positions old) (positions slots) ≤ distance (length old) from slot
   pub has_hash : HasHash (length old) hashes entry
   pub have_hashes : HaveHashes (length old) hashes slots

@@ -1,4 +1,4 @@
-use Rattle.std.proofs.Common.{◌≡◌, ℕ, ◌%◌, ◌-◌, ◌<◌, ◌≤◌, ◌⊎◌, List, length, Option, true, false, Bool, eqb, arith, ap, subst, sym, ◌∙◌}
+use Rattle.std.proofs.Common.{◌≡◌, ℕ, ◌%◌, ◌-◌, ◌≤◌, ◌⊎◌, List, length, Option, true, false, Bool, eqb, arith, ap, subst, sym, ◌∙◌}
 use Rattle.std.proofs.Common.{inl, inr}
 use Rattle.ijson_table.specs.declared.slot.Slot.{Slot}
 use Rattle.ijson_table.specs.Slots.{displacement, resident}
@@ -14,18 +14,6 @@ use Rattle.ijson_table.proofs.slots.HashesInSlots.{positions-length, displacemen
 use Rattle.ijson_table.proofs.probing.CrowdBound.{home-below}
 use Rattle.ijson_table.proofs.probing.ProbePath.{passed_by}
 use Rattle.ijson_table.proofs.index.shift.slot_of.Goals as goal
-
-pub returns-clause-within : goal.returns-clause-within
-returns-clause-within c =
-    let ends = c.in-Found.ensures.ends in
-    let size = positions-length c.args.slots.now in
-    omega (
-      arith,
-      onward-below (length (positions c.args.slots.now)) c.home_of_hash-home.result ends.0
-          (omega (arith, c.home_of_hash-home.ensures.within, c.requires.counted, size)) (omega (arith, ends.1.within)),
-      ends.1.there,
-      size,
-    )
 
 -- the probe passes the index if it does not find it
 missed : (hashes : List ℕ) (slots : List Slot) (position hash m : ℕ) → Stands hashes slots position hash

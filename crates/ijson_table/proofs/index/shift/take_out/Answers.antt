@@ -1,15 +1,14 @@
-use Rattle.std.proofs.Common.{false, ◌≡◌, ℕ, ◌+◌, ◌%◌, ◌<◌, ◌≤◌, List, length, get_or, map, set, Option, Some, None, arith, ap, refl, sym, ◌∙◌, subst}
+use Rattle.std.proofs.Common.{false, ◌≡◌, ℕ, ◌+◌, ◌%◌, ◌<◌, ◌≤◌, List, length, get_or, set, Option, Some, None, arith, ap, refl, sym, ◌∙◌, subst}
 use Rattle.std.proofs.lemmas.List.{length-set}
 use Rattle.ijson_table.specs.declared.slot.Slot.{Slot}
 use Rattle.ijson_table.specs.Crowd.{distance}
 use Rattle.ijson_table.specs.Slots.{after, displacement, resident, times, IsOrdered}
-use Rattle.ijson_table.specs.Store.{keys_of}
-use Rattle.ijson_table.specs.private.Holds.{one_if, HasGap}
+use Rattle.ijson_table.specs.private.Holds.{one_if}
 use Rattle.ijson_table.specs.private.SlotHashes.{position_in, positions, blank}
 use Rattle.ijson_table.proofs.arithmetic.Circular.{after-below}
-use Rattle.ijson_table.proofs.probing.KeyHashes.{hash_at, length-hashes}
+use Rattle.ijson_table.proofs.probing.KeyHashes.{hash_at, hashes as key_hashes, length-hashes}
 use Rattle.ijson_table.proofs.probing.ProbePath.{displacement-none, placed_at}
-use Rattle.ijson_table.proofs.shifting.BackwardShift.{gap_from, gap_closed, moved_back, times-moved_back, shift_falls, all_displacements}
+use Rattle.ijson_table.proofs.shifting.BackwardShift.{gap_closed, gap_within, moved_back, times-moved_back, shift_falls, all_displacements, HasGap}
 use Rattle.ijson_table.proofs.slots.HashesInSlots.{positions-length, positions-put, positions-set, position-at, nothing_has_hash, hashes-at}
 use Rattle.ijson_table.proofs.slots.HashesInSlots.{hashes-written, displacement-read}
 use Rattle.ijson_table.proofs.slots.Residents.{some_position, times-set}
@@ -36,11 +35,11 @@ module _ (hashes : List ℕ) (gone count : ℕ) (slots : List Slot) (gap : ℕ)
   reached = ap (λ n. after n gap) (positions-length slots)
 
   within : next < length slots
-  within = after-below (length slots) gap (omega (arith, was.gap_is.within, positions-length slots))
+  within = after-below (length slots) gap (omega (arith, gap_within hashes ps gap was.gap_is, positions-length slots))
 
   -- if no resident may move back, the slots are in order
   closed : displacement hashes ps next ≤ 1 → IsOrdered hashes ps
-  closed end = gap_closed hashes ps gap was.gap_is.within was.gap_is (omega (arith, end, ap (displacement hashes ps) reached))
+  closed end = gap_closed hashes ps gap was.gap_is (omega (arith, end, ap (displacement hashes ps) reached))
 
   -- as after an empty slot
   ended : None ≡ position_in behind → IsOrdered hashes ps
@@ -69,12 +68,12 @@ module _ (hashes : List ℕ) (gone count : ℕ) (slots : List Slot) (gap : ℕ)
     goes_on : HasGapAt hashes gone count now next
     goes_on = record {
       gap_is = subst (λ qs. HasGap hashes qs next) (sym moved) (subst (HasGap hashes (set (set ps gap (Some k)) (after (length ps) gap) None)) reached
-          (moved_back hashes ps gap k was.gap_is.within was.gap_is.empty there away was.gap_is));
+          (moved_back hashes ps gap was.gap_is k there away));
       placed = λ i. omega (
         arith,
         was.placed i,
         ap (times i) moved,
-        times-moved_back hashes ps gap k was.gap_is.within was.gap_is.empty there away i,
+        times-moved_back hashes ps gap was.gap_is k there away i,
       );
       hashes_are = hashes-written hashes (set slots gap behind) next blank (nothing_has_hash _ hashes blank refl)
           (hashes-written hashes slots gap behind (hashes-at (length slots) hashes slots next was.hashes_are within) was.hashes_are);
@@ -84,15 +83,11 @@ module _ (hashes : List ℕ) (gone count : ℕ) (slots : List Slot) (gap : ℕ)
     -- and the displacements become less
     falls : all_displacements hashes (positions now) < all_displacements hashes ps
     falls = subst (λ qs. all_displacements hashes qs < all_displacements hashes ps) (sym moved)
-        (shift_falls hashes ps gap k was.gap_is.within was.gap_is.empty there away)
-
--- the hashes of the keys
-abbrev hashes_at : (g : Over) → List (List ℕ × g.row.V.Denot) → List ℕ
-hashes_at g pairs = map g.H.KeyHash.hash_of (keys_of pairs)
+        (shift_falls hashes ps gap was.gap_is k there away)
 
 -- the slot of the index
 stood : (g : Over) (c : After-len g) → (p : ℕ) × (p < length (positions c.args.slots.now)) × (resident (positions c.args.slots.now) p ≡ Some c.args.position)
-stood g c = placed_at (hashes_at g c.args.pairs.now) (positions c.args.slots.now) c.requires.table.table c.args.position
+stood g c = placed_at (key_hashes g.H.KeyHash.hash_of c.args.pairs.now) (positions c.args.slots.now) c.requires.table.table c.args.position
     (omega (arith, c.requires.within, length-hashes g.H.KeyHash.hash_of c.args.pairs.now))
 
 pub new-modulus-requires : goal.new-modulus-requires
@@ -102,7 +97,7 @@ new-modulus-requires g c =
 pub slot_of-gap-requires : goal.slot_of-gap-requires
 slot_of-gap-requires g c = record {
   counted = c.new-modulus.ensures ∙ c.len.ensures;
-  stands = (hashes_at g c.args.pairs.now, record {
+  stands = (key_hashes g.H.KeyHash.hash_of c.args.pairs.now, record {
     hash_is = hash_at g.H.KeyHash.hash_of c.args.pairs.now c.args.position c.index-pairs-position.result c.hash.result c.requires.within
         c.index-pairs-position.is
         (c.hash.ensures ∙ ap g.H.KeyHash.hash_of (c.as_str.ensures ∙ sym (ap (λ p. p.0) c.index-pairs-position.is)));
@@ -114,12 +109,12 @@ slot_of-gap-requires g c = record {
 
 pub loop-modulus-init : goal.loop-modulus-init
 loop-modulus-init g c =
-    let hashes = hashes_at g c.args.pairs.now in
+    let hashes = key_hashes g.H.KeyHash.hash_of c.args.pairs.now in
     let slots = c.args.slots.now in
     let gap : ℕ = c.slot_of-gap.result in
     let lp : gap < length (positions slots) = omega (arith, c.slot_of-gap.ensures.within, positions-length slots) in
     let left : HasGapAt hashes c.args.position (length slots) (set slots gap blank) gap = record {
-      gap_is = rw (positions-set slots gap blank) (gap_from hashes (positions slots) gap lp c.requires.table.table.ordered);
+      gap_is = record { whole = positions slots; is = positions-set slots gap blank; within = lp; ordered = c.requires.table.table.ordered };
       placed = λ i. omega (
         arith,
         ap (times i) (positions-set slots gap blank),
@@ -155,7 +150,7 @@ stands g c full =
 -- and the distance from its home slot
 far_from : (g : _) (c : After-is_empty g) → c.is_empty.result ≡ false → (far : ℕ)
     → far ≡ distance c.new-modulus.result.count c.home_of_hash-home.result c.next_slot-next.result
-    → displacement (hashes_at g c.args.pairs.now) (positions c.loop-modulus.slots) (after (length c.loop-modulus.slots) c.loop-modulus.gap) ≡ far + 1
+    → displacement (key_hashes g.H.KeyHash.hash_of c.args.pairs.now) (positions c.loop-modulus.slots) (after (length c.loop-modulus.slots) c.loop-modulus.gap) ≡ far + 1
 far_from g c full far is =
     let who = stands g c full in
     far_by _ _ _ _ _ c.loop-modulus.invariant who.0 far who.1 (cc (is, count_is g c, next_is g c, read_is g c, c.home_of_hash-home.ensures.value))
@@ -188,7 +183,7 @@ now_is g c to resident at read = c.set-in-loop-modulus-2.ensures ∙ (ap (λ p. 
     ∙ ap (λ qs. set qs to blank) (c.set-in-loop-modulus.ensures ∙ ap (set c.loop-modulus.slots c.loop-modulus.gap) read))
 
 -- the displacement is more than one if the resident moves
-moves : (g : _) (c : After-set-in-loop-modulus-2 g) → 1 < displacement (hashes_at g c.args.pairs.now) (positions c.loop-modulus.slots)
+moves : (g : _) (c : After-set-in-loop-modulus-2 g) → 1 < displacement (key_hashes g.H.KeyHash.hash_of c.args.pairs.now) (positions c.loop-modulus.slots)
     (after (length c.loop-modulus.slots) c.loop-modulus.gap)
 moves g c = omega (
   arith,
@@ -203,13 +198,13 @@ loop-modulus-smaller g c =
     omega (
       arith,
       falls _ _ _ _ _ c.loop-modulus.invariant who.0 who.1 (moves g c),
-      ap (λ qs. all_displacements (hashes_at g c.args.pairs.now) (positions qs)) (now_is g c _ _ (next_is g at) (read_is g at)),
+      ap (λ qs. all_displacements (key_hashes g.H.KeyHash.hash_of c.args.pairs.now) (positions qs)) (now_is g c _ _ (next_is g at) (read_is g at)),
     )
 
 pub loop-modulus-preserved : goal.loop-modulus-preserved
 loop-modulus-preserved g c =
     let at = (goal.at.loop-modulus-preserved g c).After-is_empty in
     let who = stands g at c.if-is_empty.false in
-    let left : HasGapAt (hashes_at g c.args.pairs.now) c.args.position (length c.args.slots.now) c.set-in-loop-modulus-2.new.self c.next_slot-next.result =
+    let left : HasGapAt (key_hashes g.H.KeyHash.hash_of c.args.pairs.now) c.args.position (length c.args.slots.now) c.set-in-loop-modulus-2.new.self c.next_slot-next.result =
     rw (now_is g c _ _ (next_is g at) (read_is g at), next_is g at) (goes_on _ _ _ _ _ c.loop-modulus.invariant who.0 who.1 (moves g c)) in
     left

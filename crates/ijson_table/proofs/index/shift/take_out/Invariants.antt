@@ -2,9 +2,9 @@ use Rattle.std.proofs.Common.{◌≡◌, ℕ, ◌+◌, List, Some, length, map}
 use Rattle.ijson_table.specs.declared.slot.Slot.{Slot}
 use Rattle.ijson_table.specs.Slots.{below, times}
 use Rattle.ijson_table.specs.Store.{keys_of}
-use Rattle.ijson_table.specs.private.Holds.{one_if, HasGap}
+use Rattle.ijson_table.specs.private.Holds.{one_if}
 use Rattle.ijson_table.specs.private.SlotHashes.{positions, HaveHashes}
-use Rattle.ijson_table.proofs.shifting.BackwardShift.{all_displacements}
+use Rattle.ijson_table.proofs.shifting.BackwardShift.{all_displacements, HasGap}
 use Rattle.ijson_table.proofs.index.shift.take_out.Given as goal
 
 -- The slots have a gap, and each index but one.

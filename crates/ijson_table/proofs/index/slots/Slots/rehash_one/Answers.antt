@@ -1,8 +1,7 @@
-use Rattle.std.proofs.Common.{◌≡◌, ◌≢◌, ◌<◌, ◌≤◌, ℕ, length, get_or, map, set, arith, ap, sym, get_or-set_other, get_or-set_same, subst, ◌∙◌}
+use Rattle.std.proofs.Common.{◌≡◌, ◌≢◌, ◌<◌, ◌≤◌, ℕ, length, get_or, set, arith, ap, sym, get_or-set_other, get_or-set_same, subst, ◌∙◌}
 use Rattle.std.proofs.lemmas.Bool.Decides.{nat_tests}
 use Rattle.std.proofs.lemmas.List.{length-set}
-use Rattle.ijson_table.specs.Slots.{below, times}
-use Rattle.ijson_table.specs.Store.{keys_of}
+use Rattle.ijson_table.specs.Slots.{below}
 use Rattle.ijson_table.specs.private.Holds.{HasEmpty}
 use Rattle.ijson_table.specs.private.Insertion.{MayPut}
 use Rattle.ijson_table.specs.private.KeptHash.{kept}
@@ -34,9 +33,6 @@ empty g c =
     (λ i. omega (arith, held.placed i)) (inside g c)
     (grind (arith, nat_tests, held.placed c.args.position, one_if-same c.args.position, inside g c))
     (omega (arith, room g c, positions-length c.take_out.new.slots))
-
-pub new-modulus-requires : goal.new-modulus-requires
-new-modulus-requires g c = omega (arith, c.requires.within, c.requires.room, c.take_out.ensures.count, c.len.ensures)
 
 pub vacancy-slot-requires-clause-empty : goal.vacancy-slot-requires-clause-empty
 vacancy-slot-requires-clause-empty g c = empty g (goal.at.vacancy-slot-requires-clause-empty g c).After-take_out

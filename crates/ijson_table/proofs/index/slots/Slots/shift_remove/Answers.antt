@@ -1,5 +1,4 @@
-use Rattle.std.proofs.Common.{◌≡◌, ◌<◌, ◌+◌, map, arith}
-use Rattle.ijson_table.specs.Store.{keys_of}
+use Rattle.std.proofs.Common.{arith}
 use Rattle.ijson_table.proofs.probing.KeyHashes.{length-hashes}
 use Rattle.ijson_table.proofs.shifting.LowerPositions.{closed_table}
 use Rattle.ijson_table.proofs.shifting.Removal.{last_out}

@@ -1,9 +1,6 @@
-use Rattle.std.proofs.Common.{◌≡◌, ◌≢◌, ◌<◌, ◌+◌, ◌-◌, ℕ, length, map, Some, arith, ap, sym, ◌∙◌, subst}
-use Rattle.std.specs.List.{swap_remove}
+use Rattle.std.proofs.Common.{◌≡◌, ◌≢◌, ◌<◌, ◌+◌, ◌-◌, ℕ, length, Some, arith, ap, sym, ◌∙◌}
 use Rattle.ijson_table.specs.declared.slot.Slot.{Slot}
 use Rattle.ijson_table.specs.Slots.{resident}
-use Rattle.ijson_table.specs.Store.{keys_of}
-use Rattle.ijson_table.specs.private.Insertion.{IsTableOf}
 use Rattle.ijson_table.specs.private.SlotHashes.{positions}
 use Rattle.ijson_table.proofs.probing.KeyHashes.{hash_at, hashes, length-hashes}
 use Rattle.ijson_table.proofs.shifting.ListSwapRemove.{swap_remove-last}

@@ -1,4 +1,4 @@
-use Rattle.std.proofs.Common.{◌≡◌, ap, refl, replicate, sym, subst}
+use Rattle.std.proofs.Common.{refl, replicate, sym, subst}
 use Rattle.ijson_table.specs.declared.index.slots.Stored.{Stored}
 use Rattle.ijson_table.specs.declared.index.slots.TheConstants.{FEW_SLOTS}
 use Rattle.ijson_table.specs.private.NarrowSlots.{stored_slots}
