@@ -98,8 +98,11 @@ module _ (p : ℕ → ℕ) (sorted slots : List Slot) (places : ArePlaces (lengt
 
   in_order : (q : ℕ) → q < n → d (after n q) ≤ d q + 1
   in_order q lq = elim (f.others (after n q) (after-below n q lq)) [
-    | inl none ↦ omega (arith, displacement-none hashes (positions slots) (after n q)
-        (position-at slots (after n q) None (after-below n q lq) (sym none)))
+    | inl none ↦ omega (
+      arith,
+      displacement-none hashes (positions slots) (after n q)
+          (position-at slots (after n q) None (after-below n q lq) (sym none)),
+    )
     | inr it ↦ elim (places.led it.0 it.1) [
       | inl home ↦ omega (arith, ap d it.2, displaced it.0 it.1, home)
       | inr b ↦
@@ -111,8 +114,11 @@ module _ (p : ℕ → ℕ) (sorted slots : List Slot) (places : ArePlaces (lengt
   is_table : IsTableOf hashes slots
   is_table = record {
     table = record {
-      ordered = λ q lq. omega (arith, in_order q (omega (arith, lq, positions-length slots)),
-          ap (λ n. d (after n q)) (positions-length slots));
+      ordered = λ q lq. omega (
+        arith,
+        in_order q (omega (arith, lq, positions-length slots)),
+        ap (λ n. d (after n q)) (positions-length slots),
+      );
       placed = λ i. f.placed i ∙ (ap (times i) (take_all (length sorted) (positions sorted) (omega (arith, positions-length sorted))) ∙ are.placed i);
     };
     hashes_are = have;

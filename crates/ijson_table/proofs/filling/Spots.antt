@@ -133,9 +133,12 @@ module _ (n : ℕ) (sorted : List Slot) (room : length sorted ≤ n) (ordered : 
       let turn : at i + 1 ≡ n + w = omega (arith, last.0 (omega arith), ap (next_after h w) (let e : suc i ≡ m = omega arith in e)) in
       (i, omega arith, after-turned n (at i) (at 0) (omega (arith, turn)) (omega arith) (omega (arith, few lk)), omega (arith, turn, h-below i (omega arith)))
   previous (suc k) lk away =
-      let next : at k + 1 ≡ at (suc k) = omega arith in
-      (k, omega arith, after-wrapped n (at k) (omega (arith, spot-below (suc k) lk, next)) ∙ ap (wrapped n) next,
-      omega (arith, h-ascends k (suc k) (omega arith) lk))
+      let next : at k + 1 ≡ at (suc k) = omega arith in (
+        k,
+        omega arith,
+        after-wrapped n (at k) (omega (arith, spot-below (suc k) lk, next)) ∙ ap (wrapped n) next,
+        omega (arith, h-ascends k (suc k) (omega arith) lk),
+      )
 
   pub places : ArePlaces n sorted (place n sorted)
   places = record {

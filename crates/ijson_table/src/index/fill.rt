@@ -53,7 +53,14 @@ fn fill(slots: &mut Slots, sorted: &[Slot], modulus: Modulus)
     for index in 0..sorted.len() {
         let entry = sorted[index];
         let spot = next.max(modulus.home_of_hash(entry.hash));
-        slots.set(if spot < modulus.count { spot } else { spot - modulus.count }, entry);
+        slots.set(
+            if spot < modulus.count {
+                spot
+            } else {
+                spot - modulus.count
+            },
+            entry,
+        );
         next = spot + 1;
     }
 }

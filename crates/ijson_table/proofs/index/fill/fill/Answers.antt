@@ -54,8 +54,14 @@ set-requires-clause-fits c =
 pub overflow_add-next : goal.overflow_add-next
 overflow_add-next c =
     let before = goal.at.overflow_add-next c in
-    omega (arith, (place_is before.Joined-spot-modulus).0, spot-below c.args.modulus.count c.args.sorted.now (room before.Start) c.requires.sorted
-    c.loop-index.index c.loop-index-test.true, c.requires.counted, c.requires.few)
+    omega (
+      arith,
+      (place_is before.Joined-spot-modulus).0,
+      spot-below c.args.modulus.count c.args.sorted.now (room before.Start) c.requires.sorted
+          c.loop-index.index c.loop-index-test.true,
+      c.requires.counted,
+      c.requires.few,
+    )
 
 pub loop-index-preserved : goal.loop-index-preserved
 loop-index-preserved c =
