@@ -11,10 +11,11 @@ use Rattle.ijson_table.specs.private.KeyOrder.{AreEarlier, AreInOrder, IsEarlier
 use Rattle.ijson_table.specs.private.SecondHash.{second_hash}
 use Rattle.ijson_table.specs.private.SlotHashes.{blank, position_in, positions}
 use Rattle.ijson_table.specs.private.Sorting.{Entry}
+use Rattle.ijson_table.proofs.building.EntriesInOrder.{entry_within}
 use Rattle.ijson_table.proofs.firsts.KeyTies.{between, lower_first, same_entry_key, sorted_at, tied}
 use Rattle.ijson_table.proofs.slots.HashesInSlots.{hashes-at, position-at, positions-length}
 use Rattle.ijson_table.proofs.slots.KeptHashes.{kept-wide}
-use Rattle.ijson_table.proofs.slots.Residents.{some_position, stands, stands_once, times-some}
+use Rattle.ijson_table.proofs.slots.Residents.{some_position, stands, stands_once}
 
 -- After k entries: earlier indices are written at the indices that were passed, and this was the last entry, or is the
 -- first.
@@ -27,9 +28,7 @@ module _ (keys : List (List ℕ)) (sorted : List Entry) (s : AreInOrder keys sor
   -- the index of an entry is one of the list
   pub is_position : (k p : ℕ) → k < length sorted → position_in (get_or sorted k blank) ≡ Some p → p < length keys
   is_position k p lk e =
-      let there : resident (positions sorted) k ≡ Some p = position-at sorted k (Some p) lk (sym e) in
-      let some = times-some p (positions sorted) k (omega (arith, lk, positions-length sorted)) there in
-      grind (arith, nat_tests, s.entries.placed p, some, length-map keys second_hash)
+      omega (arith, entry_within (2 ^ 64 - 1) (map second_hash keys) sorted s.entries k p lk e, length-map keys second_hash)
 
   -- an index that was found is that of an entry
   found : (i k : ℕ) → k < length (positions sorted) → resident (positions sorted) k ≡ Some i

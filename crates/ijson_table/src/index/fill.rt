@@ -49,18 +49,13 @@ fn fill(slots: &mut Slots, sorted: &[Slot], modulus: Modulus)
     ensures table { (hashes : List ℕ) → AreEntries modulus.count hashes sorted.now → IsTableOf hashes slots.new }
     ensures count { length slots.new ≡ length slots.old }
 {
+    let count = modulus.count;
     let mut next = past_end(sorted, modulus);
     for index in 0..sorted.len() {
         let entry = sorted[index];
         let spot = next.max(modulus.home_of_hash(entry.hash));
-        slots.set(
-            if spot < modulus.count {
-                spot
-            } else {
-                spot - modulus.count
-            },
-            entry,
-        );
+        let slot = if spot < count { spot } else { spot - count };
+        slots.set(slot, entry);
         next = spot + 1;
     }
 }
