@@ -1,5 +1,5 @@
 -- The slots to which entries sorted by home slot are written.
-use Rattle.std.proofs.Common.{◌≡◌, ◌≢◌, ◌⊎◌, ℕ, zero, suc, ◌+◌, ◌-◌, ◌<◌, ◌≤◌, inl, inr, arith, List, length, get_or, max, ap, ◌∙◌}
+use Rattle.std.proofs.Common.{◌≡◌, ◌≢◌, ◌⊎◌, ℕ, zero, suc, ◌+◌, ◌-◌, ◌<◌, ◌≤◌, inl, inr, arith, List, length, get_or, max, ap}
 use Rattle.std.specs.Prelude.{ltb, if◌then◌else◌}
 use Rattle.std.proofs.lemmas.Bool.{cases_eq, cases_lt, leb-true}
 use Rattle.std.proofs.lemmas.Bool.Decides.{nat_tests}
@@ -15,30 +15,6 @@ use Rattle.ijson_table.proofs.firsts.KeyTies.{sorted_at}
 -- the slot at a number below 2 * n, around the end of n slots
 unfoldable pub wrapped : ℕ → ℕ → ℕ
 wrapped n p = (if ltb p n then p else p - n)
-
-pub wrapped-below : (n p : ℕ) → p < n + n → wrapped n p < n
-unfolding wrapped
-wrapped-below n p lp = grind (arith, nat_tests)
-
--- different numbers from w on, less than n further, lead to different slots
-pub wrapped-apart : (n w p q : ℕ) → w ≤ p → p < q → q < n + w → wrapped n p ≢ wrapped n q
-unfolding wrapped
-wrapped-apart n w p q from less within same = grind (arith, nat_tests)
-
--- the next number leads to the next slot
-after-wrapped : (n p : ℕ) → p + 1 < n + n → after n (wrapped n p) ≡ wrapped n (p + 1)
-unfolding wrapped after
-after-wrapped n p lp = grind (arith, nat_tests)
-
--- also after a whole turn
-after-turned : (n p q : ℕ) → p + 1 ≡ n + q → 0 < q → q ≤ n → after n (wrapped n p) ≡ wrapped n q
-unfolding wrapped after
-after-turned n p q is some le = grind (arith, nat_tests)
-
--- a slot is as far from a home slot as its number exceeds it
-pub distance-wrapped : (n h p : ℕ) → h < n → h ≤ p → p < h + n → distance n h (wrapped n p) ≡ p - h
-unfolding wrapped distance
-distance-wrapped n h p lh le lp = grind (arith, nat_tests)
 
 module _ (h : ℕ → ℕ) (s : ℕ) where
   abbrev next : ℕ → ℕ
@@ -111,40 +87,35 @@ module _ (n : ℕ) (sorted : List Slot) (room : length sorted ≤ n) (ordered : 
   few : 0 < m → w < n
   few some = omega (arith, split 0 some, h-below 0 some, room)
 
-  -- the last one ends a turn after the first one begins, if any passes the end
-  last : (0 < w → next_after h w m ≡ n + w) × (next_after h w m ≤ n + w)
-  last = (λ some. omega (arith, from_start h w m, room), omega (arith, from_start h w m, room))
-
+  -- all end within a turn
   within : (k : ℕ) → k < m → at k < n + w
-  within k lk = omega (arith, last.1, rises h w (suc k) m (omega arith))
+  within k lk = omega (arith, room, from_start h w m, rises h w (suc k) m (omega arith))
 
-  pub spot-below : (k : ℕ) → k < m → at k < n + n
+  spot-below : (k : ℕ) → k < m → at k < n + n
   spot-below k lk = omega (arith, within k lk, few (omega arith))
 
   far : (k : ℕ) → k < m → distance n (h k) (place n sorted k) + h k ≡ at k
+  unfolding wrapped distance
   far k lk =
       let near : at k < h k + n = omega (arith, split k lk, room, upper h w (h k) 0 k (omega arith) (λ j lj. h-ascends j k lj lk)) in
-      omega (arith, distance-wrapped n (h k) (at k) (h-below k lk) (omega arith) near)
+      grind (arith, nat_tests, h-below k lk, near)
 
   -- an entry that is not at home
   previous : (k : ℕ) → k < m → at k ≢ h k → (i : ℕ) × (i < m) × (after n (place n sorted i) ≡ place n sorted k) × (at k + h i ≤ at i + 1 + h k)
+  unfolding wrapped after
   previous zero lk away =
       let i : ℕ = m - 1 in
-      let turn : at i + 1 ≡ n + w = omega (arith, last.0 (omega arith), ap (next_after h w) (let e : suc i ≡ m = omega arith in e)) in
-      (i, omega arith, after-turned n (at i) (at 0) (omega (arith, turn)) (omega arith) (omega (arith, few lk)), omega (arith, turn, h-below i (omega arith)))
+      let turn : at i + 1 ≡ n + w = omega (arith, room, from_start h w m, ap (next_after h w) (let e : suc i ≡ m = omega arith in e)) in
+      (i, omega arith, grind (arith, nat_tests, turn, few lk, away), omega (arith, turn, h-below i (omega arith)))
   previous (suc k) lk away =
-      let next : at k + 1 ≡ at (suc k) = omega arith in (
-        k,
-        omega arith,
-        after-wrapped n (at k) (omega (arith, spot-below (suc k) lk, next)) ∙ ap (wrapped n) next,
-        omega (arith, h-ascends k (suc k) (omega arith) lk),
-      )
+      let next : at k + 1 ≡ at (suc k) = omega arith in
+      (k, omega arith, grind (arith, nat_tests, next, spot-below (suc k) lk), omega (arith, h-ascends k (suc k) (omega arith) lk))
 
   pub places : ArePlaces n sorted (place n sorted)
+  unfolding wrapped
   places = record {
-    below = λ k lk. wrapped-below n (at k) (spot-below k lk);
-    apart = λ j k less lk. wrapped-apart n w (at j) (at k) (omega (arith, rises h w 0 j (omega arith)))
-        (omega (arith, rises h w (suc j) k (omega arith))) (within k lk);
+    below = λ k lk. grind (arith, nat_tests, spot-below k lk);
+    apart = λ j k less lk same. grind (arith, nat_tests, same, rises h w 0 j (omega arith), rises h w (suc j) k (omega arith), within k lk);
     led = λ k lk. elim (cases_eq (at k) (h k)) [
       | inl home ↦ inl (omega (arith, far k lk, home))
       | inr away ↦ let b = previous k lk away in inr (b.0, b.1, b.2, omega (arith, b.3, far k lk, far b.0 b.1))

@@ -30,19 +30,13 @@ module _ (keys : List (List ℕ)) (sorted : List Entry) (s : AreInOrder keys sor
   is_position k p lk e =
       omega (arith, entry_within (2 ^ 64 - 1) (map second_hash keys) sorted s.entries k p lk e, length-map keys second_hash)
 
-  -- an index that was found is that of an entry
-  found : (i k : ℕ) → k < length (positions sorted) → resident (positions sorted) k ≡ Some i
-      → (k : ℕ) × (k < length sorted) × (position_in (get_or sorted k blank) ≡ Some i)
-  found i k lp at =
-      let lk : k < length sorted = omega (arith, lp, positions-length sorted) in
-      (k, lk, sym (position-at sorted k (position_in (get_or sorted k blank)) lk refl) ∙ at)
-
   -- each index is that of an entry
   pub spot : (i : ℕ) → i < length keys → (k : ℕ) × (k < length sorted) × (position_in (get_or sorted k blank) ≡ Some i)
   spot i li =
       let one : times i (positions sorted) ≡ 1 = grind (arith, nat_tests, s.entries.placed i, length-map keys second_hash) in
       let it = stands i (positions sorted) (omega arith) in
-      found i it.0 it.1 it.2
+      let lk : it.0 < length sorted = omega (arith, it.1, positions-length sorted) in
+      (it.0, lk, sym (position-at sorted it.0 (position_in (get_or sorted it.0 blank)) lk refl) ∙ it.2)
 
   -- no entry is empty
   pub each_stands : (k : ℕ) → k < length sorted → position_in (get_or sorted k blank) ≢ None

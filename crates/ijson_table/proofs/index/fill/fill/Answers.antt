@@ -1,10 +1,10 @@
-use Rattle.std.proofs.Common.{◌≡◌, ◌+◌, ◌≤◌, ℕ, length, get_or, set, arith, ap, sym, ◌∙◌, subst}
+use Rattle.std.proofs.Common.{◌≡◌, ◌+◌, ℕ, get_or, set, arith, ap, sym, ◌∙◌, subst}
 use Rattle.std.proofs.lemmas.Bool.Decides.{nat_tests}
 use Rattle.ijson_table.specs.private.Narrow.{Fits}
 use Rattle.ijson_table.specs.private.SlotHashes.{blank}
 use Rattle.ijson_table.proofs.building.EntriesInOrder.{entry_fits}
 use Rattle.ijson_table.proofs.filling.FilledSlots.{Filled, filled_all, filled_more, filled_none}
-use Rattle.ijson_table.proofs.filling.Spots.{place, places, spot, spot-below, wrapped, ArePlaces}
+use Rattle.ijson_table.proofs.filling.Spots.{place, places, wrapped, ArePlaces}
 use Rattle.ijson_table.proofs.slots.SlotTables.{each_empty}
 use Rattle.ijson_table.proofs.index.fill.fill.Goals as goal
 use Rattle.ijson_table.proofs.index.fill.fill.Goals.{Start, Joined-spot-count, then-spot-count, else-spot-count}
@@ -20,24 +20,17 @@ are_places : (c : Start) → ArePlaces c.args.modulus.count c.args.sorted.now (p
 are_places c = places c.args.modulus.count c.args.sorted.now (omega (arith, c.requires.room, c.requires.counted)) c.requires.sorted
 
 -- the next entry is written to its slot
-place_is : (c : Joined-spot-count)
-    → (c.max-spot.result ≡ spot c.args.modulus.count c.args.sorted.now c.loop-index.index)
-    × (c.if-spot-count.slot ≡ place c.args.modulus.count c.args.sorted.now c.loop-index.index)
+place_is : (c : Joined-spot-count) → c.if-spot-count.slot ≡ place c.args.modulus.count c.args.sorted.now c.loop-index.index
 unfolding wrapped
-place_is c =
-    let is : c.max-spot.result ≡ spot c.args.modulus.count c.args.sorted.now c.loop-index.index =
-    grind (arith, nat_tests, c.max-spot.ensures, c.loop-index.invariant.next, c.home_of_hash.ensures.value) in (
-      is,
-      elim c.if-spot-count.branch [
-        | then-spot-count w ↦ grind (arith, nat_tests, is, w.slot-is, w.if-spot-count.true)
-        | else-spot-count w ↦ grind (arith, nat_tests, is, w.slot-is, w.if-spot-count.false)
-      ],
-    )
+place_is c = elim c.if-spot-count.branch [
+  | then-spot-count w ↦ grind (arith, nat_tests, c.max-spot.ensures, c.loop-index.invariant.next, c.home_of_hash.ensures.value, w.slot-is, w.if-spot-count.true)
+  | else-spot-count w ↦ grind (arith, nat_tests, c.max-spot.ensures, c.loop-index.invariant.next, c.home_of_hash.ensures.value, w.slot-is, w.if-spot-count.false)
+]
 
 pub set-requires-clause-within : goal.set-requires-clause-within
 set-requires-clause-within c =
     let before = goal.at.set-requires-clause-within c in
-    omega (arith, (place_is before.Joined-spot-count).1, (are_places before.Start).below c.loop-index.index c.loop-index-test.true, c.loop-index.invariant.filled.count)
+    omega (arith, place_is before.Joined-spot-count, (are_places before.Start).below c.loop-index.index c.loop-index-test.true, c.loop-index.invariant.filled.count)
 
 pub set-requires-clause-fits : goal.set-requires-clause-fits
 set-requires-clause-fits c = subst (λ n. Fits n (get_or c.args.sorted.now c.loop-index.index blank)) (sym c.loop-index.invariant.filled.count)
@@ -46,10 +39,8 @@ set-requires-clause-fits c = subst (λ n. Fits n (get_or c.args.sorted.now c.loo
 
 pub overflow_add-next : goal.overflow_add-next
 unfolding wrapped
-overflow_add-next c =
-    let before = goal.at.overflow_add-next c in
-    grind (arith, nat_tests, (place_is before.Joined-spot-count).0, (are_places before.Start).below c.loop-index.index c.loop-index-test.true,
-    c.requires.counted, c.requires.few)
+overflow_add-next c = grind (arith, nat_tests, c.max-spot.ensures, c.loop-index.invariant.next, c.home_of_hash.ensures.value,
+    (are_places (goal.at.overflow_add-next c).Start).below c.loop-index.index c.loop-index-test.true, c.requires.counted, c.requires.few)
 
 pub loop-index-preserved : goal.loop-index-preserved
 loop-index-preserved c =
@@ -59,7 +50,7 @@ loop-index-preserved c =
     record {
       next = grind (arith, nat_tests, c.max-spot.ensures, c.loop-index.invariant.next, c.home_of_hash.ensures.value);
       filled = subst (Filled c.args.modulus.count (place c.args.modulus.count sorted) sorted (k + 1))
-          (ap (λ p. set c.loop-index.slots p (get_or sorted k blank)) (sym (place_is before.Joined-spot-count).1) ∙ sym c.set.ensures)
+          (ap (λ p. set c.loop-index.slots p (get_or sorted k blank)) (sym (place_is before.Joined-spot-count)) ∙ sym c.set.ensures)
           (filled_more c.args.modulus.count (place c.args.modulus.count sorted) sorted (are_places before.Start) k c.loop-index.slots
           c.loop-index-test.true c.loop-index.invariant.filled);
     }
