@@ -3,6 +3,7 @@
 ghost use Rattle.std.specs.Prelude.{◌≡◌, ◌+◌, ◌-◌, ◌<◌, ◌≤◌, ◌^◌, [], ◌∷◌, ◌++◌, length, get_or, map};
 ghost use Rattle.std.specs.Prelude.{Err, refl, is_some, IfOk, IsOk, IsTrue, OnErr, ◌↔◌, None};
 ghost use Rattle.std.specs.Option.{option_copied};
+ghost use Rattle.std.specs.Slice.Iter.{iter_rest};
 ghost use Rattle.ijson_table.specs.BuildBound.{IsBuildBounded};
 ghost use Rattle.ijson_table.specs.Growth.{capacity_limit};
 ghost use Rattle.ijson_table.specs.Inserts.{Inserts};
@@ -31,7 +32,7 @@ use ijson_number::Looks;
 use ijson_string::IString;
 use std::alloc::{AllocError, Global};
 use std::marker::{Model, PhantomData};
-use std::{fmt, mem};
+use std::{fmt, mem, slice};
 
 /// Entries in a list, and their indices in slots by the hash of their keys.
 ///
@@ -259,6 +260,13 @@ impl<V, H: KeyHash> Table<V, H> {
         self.pairs.as_slice()
     }
 
+    /// Returns an iterator over the entries, in order.
+    pub fn iter(&self) -> slice::Iter<'_, (IString, V)>
+        ensures { iter_rest result ≡ self.now.store.pairs }
+    {
+        self.pairs.iter()
+    }
+
     /// Returns whether the table has no entries.
     pub fn is_empty(&self) -> bool
         ensures { IsTrue result ↔ (self.now.store.pairs ≡ []) }
@@ -384,7 +392,7 @@ impl<V, H: KeyHash> Table<V, H> {
 impl<V: fmt::Debug, H: KeyHash> fmt::Debug for Table<V, H> {
     fn fmt<W: fmt::Write>(&self, f: &mut fmt::Formatter<W>) -> fmt::Result {
         f.debug_map()
-            .entries(self.pairs.iter().map(|pair| (&pair.0, &pair.1)))
+            .entries(self.iter().map(|pair| (&pair.0, &pair.1)))
             .finish()
     }
 }

@@ -6,7 +6,7 @@ use Rattle.std.proofs.lemmas.List.{length-map, map-append, map-set, get_or-map, 
 use Rattle.ijson_table.specs.Store.{keys_of, swap_out}
 use Rattle.ijson_table.specs.laws.Store.{keys-with_value}
 use Rattle.ijson_table.specs.Growth.{Grown}
-use Rattle.ijson_table.proofs.pairs.PairsByKey.{keys-length, keys-swap_out, set-value}
+use Rattle.ijson_table.proofs.pairs.PairsByKey.{key_at, keys-length, keys-swap_out, set-value}
 
 module _ {V : Type 0} (hash : List ℕ → ℕ) where
   -- the hash of each key, in order
@@ -16,6 +16,12 @@ module _ {V : Type 0} (hash : List ℕ → ℕ) where
   -- the numbers of hashes and of pairs are equal
   pub length-hashes : (pairs : List (List ℕ × V)) → length (hashes pairs) ≡ length pairs
   length-hashes pairs = length-map (keys_of pairs) hash ∙ keys-length pairs
+
+  -- the hash of the key of a pair that was read
+  pub hash_at : (pairs : List (List ℕ × V)) (i : ℕ) (pair : List ℕ × V) (h : ℕ) → i < length pairs → pair ≡ get_or pairs i pair
+      → h ≡ hash pair.0 → h ≡ get_or (hashes pairs) i 0
+  hash_at pairs i pair h li read is = is ∙ (ap (λ p. hash p.0) read
+      ∙ sym (get_or-map hash (keys_of pairs) i [] 0 (omega (arith, li, keys-length pairs)) ∙ ap hash (key_at pairs i pair li)))
 
   -- an appended pair adds its hash
   pub hashes-push : (pairs : List (List ℕ × V)) (key : List ℕ) (value : V)

@@ -15,25 +15,20 @@ use Rattle.ijson_table.specs.private.SlotHashes.{blank, position_in, positions, 
 use Rattle.ijson_table.specs.private.KeptHash.{kept}
 use Rattle.ijson_table.specs.private.Probe.{LooksAt}
 use Rattle.ijson_table.proofs.pairs.KeyPositions.{same_key}
-use Rattle.ijson_table.proofs.slots.HashesInSlots.{hash-distance, hashes-at, position-at, positions-length, seen_at}
+use Rattle.ijson_table.proofs.slots.HashesInSlots.{hash-distance, hashes-at, position-at}
 use Rattle.ijson_table.proofs.probing.ProbePath.{displacement-some, displacement-none}
 
--- a slot that was read, in its representation
-pub record ReadAt (n : ℕ) (hashes : List ℕ) (slots : List Slot) (p : ℕ) (there : Slot) : Type 0 where
+-- a slot that was read
+pub record ReadAt (hashes : List ℕ) (slots : List Slot) (p : ℕ) (there : Slot) : Type 0 where
   pub position : position_in there ≡ resident (positions slots) p
-  pub hash : HasHash n hashes there
+  pub hash : HasHash (length slots) hashes there
 
-pub read_at : {X : Type 0} (f : X → Slot) (hashes : List ℕ) (slots : List X) (p : ℕ) (read : X) (there : Slot)
-    → HaveHashes (length (map f slots)) hashes (map f slots)
-    → p < length (positions (map f slots)) → read ≡ get_or slots p read → there ≡ f read
-    → ReadAt (length (map f slots)) hashes (map f slots) p there
-read_at f hashes slots p read there have lp is seen =
-    let within : p < length (map f slots) = omega (arith, lp, positions-length (map f slots)) in
-    let same : there ≡ get_or (map f slots) p blank = seen ∙ seen_at f slots p read within is in
-    record {
-      position = sym (position-at (map f slots) p (position_in there) within (ap position_in same));
-      hash = subst (HasHash (length (map f slots)) hashes) (sym same) (hashes-at (length (map f slots)) hashes (map f slots) p have within);
-    }
+pub read_at : (hashes : List ℕ) (slots : List Slot) (p : ℕ) (there : Slot) → HaveHashes (length slots) hashes slots
+    → p < length slots → there ≡ get_or slots p blank → ReadAt hashes slots p there
+read_at hashes slots p there have within is = record {
+  position = sym (position-at slots p (position_in there) within (ap position_in is));
+  hash = subst (HasHash (length slots) hashes) (sym is) (hashes-at (length slots) hashes slots p have within);
+}
 
 -- a test that holds if two strings are equal
 pub same_test : (r : Bool) (k key : List ℕ) → (IsTrue r ↔ (k ≡ key)) → r ≡ bytes_eq k key

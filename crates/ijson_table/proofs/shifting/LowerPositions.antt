@@ -9,13 +9,14 @@ use Rattle.std.proofs.lemmas.List.Edits.{length-remove}
 use Rattle.std.proofs.lemmas.List.Elements.{All-from_get_or}
 use Rattle.ijson_table.specs.declared.slot.Slot.{Slot}
 use Rattle.ijson_table.specs.Crowd.{distance}
-use Rattle.ijson_table.specs.Slots.{after, below, displaced, displacement, home_at, resident, times, IsTable}
+use Rattle.ijson_table.specs.Slots.{after, displaced, displacement, home_at, resident, times, IsTable}
 use Rattle.ijson_table.specs.private.Closing.{closed, lower}
-use Rattle.ijson_table.specs.private.Holds.{one_if, Holds}
-use Rattle.ijson_table.specs.private.Insertion.{IsTableOf}
-use Rattle.ijson_table.specs.private.SlotHashes.{blank, coded_position, position_in, positions, HasHash, HaveHashes}
+use Rattle.ijson_table.specs.private.Holds.{one_if}
+use Rattle.ijson_table.specs.private.Insertion.{IsTableBut, IsTableOf}
+use Rattle.ijson_table.specs.private.KeptHash.{kept}
+use Rattle.ijson_table.specs.private.SlotHashes.{blank, coded_position, position_in, positions, HasHash}
 use Rattle.ijson_table.proofs.slots.HashesInSlots.{positions-length, position-at, hashes-at}
-use Rattle.ijson_table.proofs.shifting.Removal.{not_pending}
+use Rattle.ijson_table.proofs.shifting.Removal.{stays}
 use Rattle.ijson_table.proofs.slots.Residents.{one_if-same, times-cons, times-nil}
 use Rattle.ijson_table.proofs.arithmetic.Circular.{after-below}
 use Rattle.ijson_table.proofs.shifting.ListShiftOut.{raise, get_or-remove}
@@ -67,65 +68,64 @@ lowered-some : (gone i : ℕ) (o : Option ℕ) → lowered gone o ≡ Some i →
 lowered-some gone i None e = cc
 lowered-some gone i (Some k) e = (k, refl, cc)
 
-module _ (hashes : List ℕ) (gone : ℕ) (within : gone < length hashes) where
-  -- a lowered index is displaced as before
-  displaced-lowered : (n p : ℕ) (o : Option ℕ) → ((k : ℕ) → o ≡ Some k → k ≢ gone)
-      → displaced n (remove hashes gone) p (lowered gone o) ≡ displaced n hashes p o
+module _ (hashes : List ℕ) (gone : ℕ) (within : gone < length hashes) (slots : List Slot) (left : IsTableBut hashes gone slots) where
+  abbrev ps : List (Option ℕ)
+  ps = positions slots
+
+  abbrev hashes' : List ℕ
+  hashes' = remove hashes gone
+
+  -- the hash of a lowered index is that of the index
+  same_hash : (k : ℕ) → k ≢ gone → get_or hashes' (lower gone k) 0 ≡ get_or hashes k 0
+  same_hash k other = get_or-remove hashes gone (lower gone k) 0 within ∙ ap (λ i. get_or hashes i 0) (raise-lower gone k other)
+
+  -- so a resident is displaced as before
+  displaced-lowered : (n p : ℕ) (o : Option ℕ) → ((k : ℕ) → o ≡ Some k → k ≢ gone) → displaced n hashes' p (lowered gone o) ≡ displaced n hashes p o
   unfolding home_at
   displaced-lowered n p None others = refl
-  displaced-lowered n p (Some k) others =
-      ap (λ h. distance n (h % n) p + 1) (get_or-remove hashes gone (lower gone k) 0 within
-      ∙ ap (λ i. get_or hashes i 0) (raise-lower gone k (others k refl)))
+  displaced-lowered n p (Some k) others = ap (λ h. distance n (h % n) p + 1) (same_hash k (others k refl))
 
-  -- so is the resident of each slot
-  displacement-lowered : (os : List (Option ℕ)) (p : ℕ) → p < length os → ((k : ℕ) → resident os p ≡ Some k → k ≢ gone)
-      → displacement (remove hashes gone) (map (lowered gone) os) p ≡ displacement hashes os p
+  displacement-lowered : (p : ℕ) → p < length ps → displacement hashes' (map (lowered gone) ps) p ≡ displacement hashes ps p
   unfolding displacement
-  displacement-lowered os p lp others =
-      ap (λ n. displaced n (remove hashes gone) p (resident (map (lowered gone) os) p)) (length-map os (lowered gone))
-      ∙ (ap (displaced (length os) (remove hashes gone) p) (get_or-map (lowered gone) os p None None lp)
-      ∙ displaced-lowered (length os) p (resident os p) others)
+  displacement-lowered p lp =
+      ap (λ n. displaced n hashes' p (resident (map (lowered gone) ps) p)) (length-map ps (lowered gone))
+      ∙ (ap (displaced (length ps) hashes' p) (get_or-map (lowered gone) ps p None None lp)
+      ∙ displaced-lowered (length ps) p (resident ps p) (λ k e. (stays hashes gone slots left p k lp e).1))
 
   -- the lowered indices are a table of the remaining hashes
-  closed_positions : (os : List (Option ℕ)) → Holds hashes (below (length hashes)) (Some gone) os
-      → IsTable (remove hashes gone) (map (lowered gone) os)
-  closed_positions os held =
-      let size : length (map (lowered gone) os) ≡ length os = length-map os (lowered gone) in
-      let fewer : length (remove hashes gone) + 1 ≡ length hashes = length-remove hashes gone within in
-      let away : times gone os ≡ 0 = grind (arith, nat_tests, held.placed gone, one_if-same gone) in
-      let same : (p : ℕ) → p < length os → displacement (remove hashes gone) (map (lowered gone) os) p ≡ displacement hashes os p =
-      λ p lp. displacement-lowered os p lp (λ k. not_pending hashes (length hashes) gone os held p k lp) in
+  closed_positions : IsTable hashes' (map (lowered gone) ps)
+  closed_positions =
+      let size : length (map (lowered gone) ps) ≡ length ps = length-map ps (lowered gone) in
+      let fewer : length hashes' + 1 ≡ length hashes = length-remove hashes gone within in
+      let away : times gone ps ≡ 0 = grind (arith, nat_tests, left.holds.placed gone, one_if-same gone) in
       record {
         ordered = λ p lp.
-            let lp' : p < length os = omega (arith, lp, size) in
+            let lp' : p < length ps = omega (arith, lp, size) in
             omega (
               arith,
-              held.ordered p lp',
-              same p lp',
-              same (after (length os) p) (after-below (length os) p lp'),
-              ap (λ n. displacement (remove hashes gone) (map (lowered gone) os) (after n p)) size,
+              left.holds.ordered p lp',
+              displacement-lowered p lp',
+              displacement-lowered (after (length ps) p) (after-below (length ps) p lp'),
+              ap (λ n. displacement hashes' (map (lowered gone) ps) (after n p)) size,
             );
-        placed = λ i.
-            grind (arith, nat_tests, times-lowered gone i os away, held.placed (raise gone i), fewer, within);
+        placed = λ i. grind (arith, nat_tests, times-lowered gone i ps away, left.holds.placed (raise gone i), fewer, within);
       }
 
   -- a lowered slot has the hash of its index
-  closed_has_hash : (slot : Slot) → HasHash hashes slot → ((k : ℕ) → position_in slot ≡ Some k → k ≢ gone)
-      → HasHash (remove hashes gone) (closed gone slot)
-  closed_has_hash slot has others i e =
+  closed_has_hash : (n : ℕ) (slot : Slot) → HasHash n hashes slot → ((k : ℕ) → position_in slot ≡ Some k → k ≢ gone)
+      → HasHash n hashes' (closed gone slot)
+  closed_has_hash n slot has others i e =
       let was = lowered-some gone i (position_in slot) (sym (position-closed gone slot) ∙ e) in
-      has was.0 was.1 ∙ (ap (λ k. get_or hashes k 0) (sym (raise-lower gone was.0 (others was.0 was.1)) ∙ ap (raise gone) was.2)
-      ∙ sym (get_or-remove hashes gone i 0 within))
+      has was.0 was.1 ∙ ap (kept n) (sym (same_hash was.0 (others was.0 was.1)) ∙ ap (λ k. get_or hashes' k 0) was.2)
 
   -- the table without the index
-  pub closed_table : (slots : List Slot) → Holds hashes (below (length hashes)) (Some gone) (positions slots) → HaveHashes hashes slots
-      → IsTableOf (remove hashes gone) (map (closed gone) slots)
-  closed_table slots held have = record {
-    table = subst (IsTable (remove hashes gone)) (sym (positions-closed gone slots)) (closed_positions (positions slots) held);
-    hashes_are = All-from_get_or (HasHash (remove hashes gone)) (map (closed gone) slots) blank (λ p lp.
-        let lp' : p < length slots = omega (arith, lp, length-map slots (closed gone)) in
-        subst (HasHash (remove hashes gone)) (sym (get_or-map (closed gone) slots p blank blank lp'))
-        (closed_has_hash (get_or slots p blank) (hashes-at hashes slots p have lp')
-        (λ k e. not_pending hashes (length hashes) gone (positions slots) held p k (omega (arith, lp', positions-length slots))
-        (position-at slots p (Some k) lp' (sym e)))));
+  pub closed_table : IsTableOf hashes' (map (closed gone) slots)
+  closed_table = record {
+    table = subst (IsTable hashes') (sym (positions-closed gone slots)) closed_positions;
+    hashes_are = All-from_get_or (HasHash (length (map (closed gone) slots)) hashes') (map (closed gone) slots) blank (λ p lp.
+        let size : length (map (closed gone) slots) ≡ length slots = length-map slots (closed gone) in
+        let lp' : p < length slots = omega (arith, lp, size) in
+        rw (size, get_or-map (closed gone) slots p blank blank lp')
+        (closed_has_hash (length slots) (get_or slots p blank) (hashes-at (length slots) hashes slots p left.hashes_are lp')
+        (λ k e. (stays hashes gone slots left p k (omega (arith, lp', positions-length slots)) (position-at slots p (Some k) lp' (sym e))).1)));
   }

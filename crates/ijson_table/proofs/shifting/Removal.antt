@@ -1,47 +1,24 @@
 -- The effect of a removal.
-use Rattle.std.proofs.Common.{◌≡◌, ◌≢◌, ℕ, ◌+◌, ◌%◌, ◌<◌, ◌≤◌, inl, inr, arith, List, [], ◌∷◌, ◌++◌, length, get_or, set, Option, Some}
-use Rattle.std.proofs.Common.{None, refl, sym, ap, ◌∙◌, get_or-set_other}
+use Rattle.std.proofs.Common.{◌≡◌, ◌≢◌, ℕ, ◌+◌, ◌%◌, ◌<◌, ◌≤◌, inl, inr, arith, List, [], length, get_or, set, Option, Some, None}
+use Rattle.std.proofs.Common.{refl, sym, subst, ap, ◌∙◌}
 use Rattle.std.proofs.lemmas.Bool.Decides.{nat_tests}
 use Rattle.std.proofs.lemmas.List.{length-set}
-use Rattle.std.proofs.Math.ListN.{get_or-append}
 use Rattle.ijson_table.specs.Crowd.{distance}
 use Rattle.std.specs.List.{remove, swap_remove}
 use Rattle.std.proofs.lemmas.List.Edits.{length-remove, get_or-remove_below}
 use Rattle.std.proofs.lemmas.Bool.{cases_eq, cases_lt}
+use Rattle.ijson_table.specs.declared.slot.Slot.{Slot}
 use Rattle.ijson_table.specs.private.Holds.{one_if, Holds}
-use Rattle.ijson_table.specs.Slots.{after, displacement, resident, home_at, times, IsTable, displaced, below}
+use Rattle.ijson_table.specs.private.Insertion.{IsTableBut, IsTableOf}
+use Rattle.ijson_table.specs.private.KeptHash.{kept}
+use Rattle.ijson_table.specs.private.SlotHashes.{blank, position_in, positions, HasHash, HaveHashes}
+use Rattle.ijson_table.specs.Slots.{after, displacement, resident, home_at, times, IsOrdered, IsTable, displaced, below}
 use Rattle.ijson_table.proofs.arithmetic.Circular.{after-below}
+use Rattle.ijson_table.proofs.slots.HashesInSlots.{has_own_hash, hashes-as, hashes-at, hashes-put, position-at, positions-length, positions-put}
 use Rattle.ijson_table.proofs.slots.Residents.{stands, stands_once, times-set, times-some}
 use Rattle.ijson_table.proofs.shifting.ListSwapRemove.{length-swap_remove, swap_remove-same, swap_remove-other}
-use Rattle.ijson_table.proofs.shifting.Insertion.{held_below}
 use Rattle.ijson_table.proofs.shifting.SlotWrites.{displacement-set_same, displacement-set_other}
 use Rattle.ijson_table.proofs.probing.ProbePath.{displacement-some, displacement-none}
-
--- a table holds all indices, with none pending
-holds-table : (hashes : List ℕ) (slots : List (Option ℕ)) → IsTable hashes slots → Holds hashes (below (length hashes)) None slots
-holds-table hashes slots t = record { ordered = t.ordered; placed = λ i. omega (arith, t.placed i) }
-
--- slots that hold each of the first indices are a table
-pub table-holds : (hashes : List ℕ) (count : ℕ) (slots : List (Option ℕ)) → count ≡ length hashes → Holds hashes (below count) None slots
-    → IsTable hashes slots
-table-holds hashes count slots is held = record { ordered = held.ordered; placed = λ i. grind (arith, nat_tests, held.placed i, is) }
-
--- each index but the pending one is in a slot
-pub stands_still : (hashes : List ℕ) (count gone : ℕ) (slots : List (Option ℕ)) → Holds hashes (below count) (Some gone) slots → (i : ℕ)
-    → i < count → i ≢ gone → (p : ℕ) × (p < length slots) × (resident slots p ≡ Some i)
-stands_still hashes count gone slots held i li ne =
-    let one : times i slots ≡ 1 = grind (arith, nat_tests, held.placed i) in
-    stands i slots (omega arith)
-
--- a resident is not the pending one
-pub not_pending : (hashes : List ℕ) (count gone : ℕ) (slots : List (Option ℕ)) → Holds hashes (below count) (Some gone) slots → (p k : ℕ)
-    → p < length slots → resident slots p ≡ Some k → k ≢ gone
-not_pending hashes count gone slots held p k lp e = λ same. grind (arith, nat_tests, held.placed k, times-some k slots p lp e)
-
--- no index is in two slots
-pub held_once : (hashes : List ℕ) (count : ℕ) (pending : Option ℕ) (slots : List (Option ℕ)) → Holds hashes (below count) pending slots
-    → (i : ℕ) → times i slots ≤ 1
-held_once hashes count pending slots held i = grind (arith, nat_tests, held.placed i)
 
 -- hashes that agree there displace equally
 displaced-as : (n : ℕ) (hashes hashes' : List ℕ) (p : ℕ) (o : Option ℕ) → ((i : ℕ) → o ≡ Some i → get_or hashes' i 0 ≡ get_or hashes i 0)
@@ -57,93 +34,120 @@ pub displacement-as : (hashes hashes' : List ℕ) (slots : List (Option ℕ)) (p
 unfolding displacement
 displacement-as hashes hashes' slots p same = displaced-as (length slots) hashes hashes' p (resident slots p) same
 
--- other hashes to which nothing refers
-other_hashes : (hashes hashes' : List ℕ) (count : ℕ) (pending : Option ℕ) (slots : List (Option ℕ))
-    → Holds hashes (below count) pending slots
-    → ((p i : ℕ) → p < length slots → resident slots p ≡ Some i → get_or hashes' i 0 ≡ get_or hashes i 0)
-    → Holds hashes' (below count) pending slots
-other_hashes hashes hashes' count pending slots held same = record {
-  ordered = λ p lp. omega (
-    arith,
-    held.ordered p lp,
-    displacement-as hashes hashes' slots p (λ i. same p i lp),
-    displacement-as hashes hashes' slots (after (length slots) p)
-        (λ i. same (after (length slots) p) i (after-below (length slots) p lp)),
-  );
-  placed = held.placed;
-}
-
--- another hash for the pending index
-pub replaced : (hashes : List ℕ) (i hash : ℕ) (slots : List (Option ℕ)) → Holds hashes (below (length hashes)) (Some i) slots
-    → Holds (set hashes i hash) (below (length hashes)) (Some i) slots
-replaced hashes i hash slots held = other_hashes hashes (set hashes i hash) (length hashes) (Some i) slots held
-    (λ p k lp e. get_or-set_other hashes i k hash 0 (not_pending hashes (length hashes) i slots held p k lp e))
+-- other hashes that agree at each resident keep the order
+pub ordered-as : (hashes hashes' : List ℕ) (slots : List (Option ℕ)) → IsOrdered hashes slots
+    → ((p i : ℕ) → p < length slots → resident slots p ≡ Some i → get_or hashes' i 0 ≡ get_or hashes i 0) → IsOrdered hashes' slots
+ordered-as hashes hashes' slots ordered same p lp = omega (
+  arith,
+  ordered p lp,
+  displacement-as hashes hashes' slots p (λ i. same p i lp),
+  displacement-as hashes hashes' slots (after (length slots) p) (λ i. same (after (length slots) p) i (after-below (length slots) p lp)),
+)
 
 -- indices of one hash have one home slot
 home-as : (n : ℕ) (hashes hashes' : List ℕ) (i j : ℕ) → get_or hashes' i 0 ≡ get_or hashes j 0 → home_at n hashes' i ≡ home_at n hashes j
 unfolding home_at
 home-as n hashes hashes' i j e = ap (λ x. x % n) e
 
-module _ (hashes : List ℕ) (slots : List (Option ℕ)) where
+module _ (hashes : List ℕ) (gone : ℕ) (slots : List Slot) (left : IsTableBut hashes gone slots) where
+  abbrev ps : List (Option ℕ)
+  ps = positions slots
+
+  -- each other index is in a slot,
+  pub stands_still : (i : ℕ) → i < length hashes → i ≢ gone → (p : ℕ) × (p < length ps) × (resident ps p ≡ Some i)
+  stands_still i li ne = let one : times i ps ≡ 1 = grind (arith, nat_tests, left.holds.placed i) in stands i ps (omega arith)
+
+  -- and nothing else
+  pub stays : (p k : ℕ) → p < length ps → resident ps p ≡ Some k → (k < length hashes) × (k ≢ gone)
+  stays p k lp e = let some = times-some k ps p lp e in (
+    grind (arith, nat_tests, left.holds.placed k, some),
+    λ same. grind (arith, nat_tests, left.holds.placed k, some),
+  )
+
+  module _ (hashes' : List ℕ) (same : (k : ℕ) → k < length hashes → k ≢ gone → get_or hashes' k 0 ≡ get_or hashes k 0) where
+    as_before : (p k : ℕ) → p < length ps → resident ps p ≡ Some k → get_or hashes' k 0 ≡ get_or hashes k 0
+    as_before p k lp e = let who = stays p k lp e in same k who.0 who.1
+
+    -- so other hashes of the index that was removed fit the slots
+    pub but_ordered : IsOrdered hashes' ps
+    but_ordered = ordered-as hashes hashes' ps left.holds.ordered as_before
+
+    pub but_hashes : HaveHashes (length slots) hashes' slots
+    but_hashes = hashes-as (length slots) hashes hashes' slots left.hashes_are as_before
+
   -- the last pair was removed
-  pub last_out : (i : ℕ) → i + 1 ≡ length hashes → Holds hashes (below (length hashes)) (Some i) slots → IsTable (remove hashes i) slots
-  last_out i last held =
-      let size : length (remove hashes i) + 1 ≡ length hashes = length-remove hashes i (omega arith) in
-      let apart : (p k : ℕ) → p < length slots → resident slots p ≡ Some k → k < i = λ p k lp e.
-      omega (
-        arith,
-        last,
-        held_below (length hashes) (Some i) slots held.placed p k lp e,
-        not_pending hashes
-            (length hashes) i slots held p k lp e,
-      ) in
-      let now : Holds (remove hashes i) (below (length hashes)) (Some i) slots =
-      other_hashes hashes (remove hashes i) (length hashes) (Some i) slots held
-      (λ p k lp e. get_or-remove_below hashes i 0 k (apart p k lp e) (omega arith)) in
+  pub last_out : gone + 1 ≡ length hashes → IsTableOf (remove hashes gone) slots
+  last_out last =
+      let size = length-remove hashes gone (omega arith) in
+      let same : (k : ℕ) → k < length hashes → k ≢ gone → get_or (remove hashes gone) k 0 ≡ get_or hashes k 0 =
+      λ k lk ne. get_or-remove_below hashes gone 0 k (omega arith) (omega arith) in
       record {
-        ordered = now.ordered;
-        placed = λ k. grind (arith, nat_tests, held.placed k, size);
+        table = record {
+          ordered = but_ordered (remove hashes gone) same;
+          placed = λ k. grind (arith, nat_tests, left.holds.placed k, size);
+        };
+        hashes_are = but_hashes (remove hashes gone) same;
       }
 
   -- another was removed, and the last one, at slot p, gets its number
-  pub renamed : (i p last : ℕ) → last + 1 ≡ length hashes → i < last → p < length slots → resident slots p ≡ Some last
-      → Holds hashes (below (length hashes)) (Some i) slots → IsTable (swap_remove hashes i 0) (set slots p (Some i))
-  renamed i p last is li lp there held =
-      let hashes' : List ℕ = swap_remove hashes i 0 in
-      let slots' : List (Option ℕ) = set slots p (Some i) in
-      let n : ℕ = length slots in
-      let fits : length slots' ≡ n = length-set slots p (Some i) in
-      let size : length hashes' + 1 ≡ length hashes = length-swap_remove hashes i (omega arith) in
-      let moved : get_or hashes' i 0 ≡ get_or hashes last 0 =
-      swap_remove-same hashes i (omega arith) ∙ ap (λ x. get_or hashes x 0) (omega arith) in
-      let one_last : times last slots ≡ 1 = grind (arith, nat_tests, held.placed last) in
-      let reached : (q : ℕ) → q < n → displacement hashes' slots' q ≡ displacement hashes slots q = λ q lq. elim (cases_eq q p) [
-        | inl self ↦
-            let a : displacement hashes' slots' p ≡ distance n (home_at n hashes' i) p + 1 = displacement-set_same hashes' slots p (Some i) lp in
-            let b : displacement hashes slots p ≡ distance n (home_at n hashes last) p + 1 = displacement-some hashes slots p last there in
-            let c : home_at n hashes' i ≡ home_at n hashes last = home-as n hashes hashes' i last moved in
-            omega (arith, a, b, ap (λ x. distance n x p) c, ap (displacement hashes' slots') self, ap (displacement hashes slots) self)
-        | inr other ↦
-            displacement-set_other hashes' slots p q (Some i) other ∙ displacement-as hashes hashes' slots q (λ k e.
-            let below = held_below (length hashes) (Some i) slots held.placed q k lq e in
-            let not_i : k ≢ i = not_pending hashes (length hashes) i slots held q k lq e in
-            let not_last : k ≢ last = λ same. other (stands_once last slots q p (omega arith) lq lp (e ∙ ap Some same) there) in
-            swap_remove-other hashes i k (omega arith) (omega arith) not_i)
-      ] in
-      record {
-        ordered = λ q lq.
-            let lq' : q < n = omega arith in
-            let up : after n q < n = after-below n q lq' in
-            omega (
-              arith,
-              held.ordered q lq',
-              reached q lq',
-              reached (after n q) up,
-              ap
-                  (λ s. displacement hashes' slots' (after s q)) fits,
-            );
-        placed = λ k. grind (arith, nat_tests, held.placed k, times-set k slots p (Some i) lp, ap (one_if k) there, size);
-      }
+  module _ (p last : ℕ) (is : last + 1 ≡ length hashes) (li : gone < last) (lp : p < length slots) (there : resident ps p ≡ Some last) where
+    abbrev hashes' : List ℕ
+    hashes' = swap_remove hashes gone 0
+
+    lq : p < length ps
+    lq = omega (arith, lp, positions-length slots)
+
+    moved : get_or hashes' gone 0 ≡ get_or hashes last 0
+    moved = swap_remove-same hashes gone (omega (arith, is, li)) ∙ ap (λ x. get_or hashes x 0) (omega (arith, is))
+
+    others : (q k : ℕ) → q < length ps → q ≢ p → resident ps q ≡ Some k → get_or hashes' k 0 ≡ get_or hashes k 0
+    others q k lq' other e =
+        let who = stays q k lq' e in
+        let once : times last ps ≤ 1 = grind (arith, nat_tests, left.holds.placed last) in
+        let not_last : k ≢ last = λ same. other (stands_once last ps q p once lq' lq (e ∙ ap Some same) there) in
+        swap_remove-other hashes gone k (omega (arith, li, is)) (omega (arith, who.0, not_last, is)) who.1
+
+    reached : (q : ℕ) → q < length ps → displacement hashes' (set ps p (Some gone)) q ≡ displacement hashes ps q
+    reached q lq' = elim (cases_eq q p) [
+      | inl self ↦ let n = length ps in omega (
+          arith,
+          displacement-set_same hashes' ps p (Some gone) lq,
+          displacement-some hashes ps p last there,
+          ap (λ x. distance n x p) (home-as n hashes hashes' gone last moved),
+          ap (displacement hashes' (set ps p (Some gone))) self,
+          ap (displacement hashes ps) self,
+        )
+      | inr other ↦ displacement-set_other hashes' ps p q (Some gone) other
+          ∙ displacement-as hashes hashes' ps q (λ k e. others q k lq' other e)
+    ]
+
+    -- the stored hash of the last one is that of the index
+    pub own_hash : (slot : Slot) → position_in slot ≡ Some gone → slot.hash ≡ (get_or slots p blank).hash → HasHash (length slots) hashes' slot
+    own_hash slot at same = has_own_hash (length slots) hashes' slot gone at (same
+        ∙ (hashes-at (length slots) hashes slots p left.hashes_are lp last (sym (position-at slots p (position_in (get_or slots p blank)) lp refl) ∙ there)
+        ∙ ap (kept (length slots)) (sym moved)))
+
+    pub renamed : (slot : Slot) → position_in slot ≡ Some gone → slot.hash ≡ (get_or slots p blank).hash → IsTableOf hashes' (set slots p slot)
+    renamed slot at same =
+        let fits : length (set ps p (Some gone)) ≡ length ps = length-set ps p (Some gone) in
+        let size = length-swap_remove hashes gone (omega (arith, li, is)) in
+        let table : IsTable hashes' (set ps p (Some gone)) = record {
+          ordered = λ q lq'.
+              let within : q < length ps = omega arith in
+              omega (
+                arith,
+                left.holds.ordered q within,
+                reached q within,
+                reached (after (length ps) q) (after-below (length ps) q within),
+                ap (λ s. displacement hashes' (set ps p (Some gone)) (after s q)) fits,
+              );
+          placed = λ k. grind (arith, nat_tests, left.holds.placed k, times-set k ps p (Some gone) lq, ap (one_if k) there, size, is, li);
+        } in
+        record {
+          table = subst (IsTable hashes') (sym (positions-put slots p slot gone at)) table;
+          hashes_are = subst (λ n. HaveHashes n hashes' (set slots p slot)) (sym (length-set slots p slot))
+              (hashes-put (length slots) hashes hashes' slots p slot left.hashes_are (own_hash slot at same) (λ q k lq' other e. others q k lq' other e));
+        }
 
 -- an index in no slot is not counted
 pub times-none : (i : ℕ) (slots : List (Option ℕ)) → ((p : ℕ) → p < length slots → resident slots p ≡ None) → times i slots ≡ 0
@@ -163,9 +167,3 @@ holds_none hashes slots empty = record {
       omega (arith, displacement-none hashes slots (after (length slots) p) (empty (after (length slots) p) up));
   placed = λ i. grind (arith, nat_tests, times-none i slots empty);
 }
-
--- one more hash after the others
-pub holds_pushed : (hashes : List ℕ) (hash : ℕ) (slots : List (Option ℕ)) → IsTable hashes slots
-    → Holds (hashes ++ hash ∷ []) (below (length hashes)) None slots
-holds_pushed hashes hash slots t = other_hashes hashes (hashes ++ hash ∷ []) (length hashes) None slots (holds-table hashes slots t)
-    (λ p i lp e. get_or-append hashes (hash ∷ []) 0 i (held_below (length hashes) None slots (holds-table hashes slots t).placed p i lp e))

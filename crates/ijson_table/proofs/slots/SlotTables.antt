@@ -14,7 +14,7 @@ use Rattle.ijson_table.specs.private.KeptHash.{kept}
 use Rattle.ijson_table.specs.private.SlotHashes.{position_in, positions, blank, HaveHashes}
 use Rattle.ijson_table.proofs.slots.HashesInSlots.{positions-length, position-at, all_empty, hashes-none, hashes-as}
 use Rattle.ijson_table.proofs.shifting.Insertion.{some_empty}
-use Rattle.ijson_table.proofs.shifting.Removal.{holds_none, holds_pushed, table-holds}
+use Rattle.ijson_table.proofs.shifting.Removal.{holds_none, ordered-as}
 use Rattle.ijson_table.proofs.slots.Residents.{times-some}
 use Rattle.ijson_table.proofs.probing.ProbePath.{in_list}
 
@@ -31,7 +31,8 @@ whole n new old e is = ap (λ k. take k (new ++ drop (length new) old)) (is ∙ 
 -- empty slots are a table of no hashes
 pub empty_table : (slots : List Slot) → All (λ slot. position_in slot ≡ None) slots → IsTableOf [] slots
 empty_table slots empty = record {
-  table = table-holds [] 0 (positions slots) refl (holds_none [] (positions slots) (all_empty slots empty));
+  table = let held = holds_none [] (positions slots) (all_empty slots empty) in
+      record { ordered = held.ordered; placed = λ i. omega (arith, held.placed i) };
   hashes_are = hashes-none (length slots) [] slots empty;
 }
 
@@ -55,14 +56,18 @@ left_empty hashes slots table room = some_empty slots (length hashes + 1) (lengt
 
 module _ (hashes : List ℕ) (slots : List Slot) (are : IsTableOf hashes slots) (position hash : ℕ) (next : position ≡ length hashes)
     (room : position < length slots) where
+  -- another hash after them changes none of them
+  same : (p i : ℕ) → p < length (positions slots) → resident (positions slots) p ≡ Some i
+      → get_or (hashes ++ hash ∷ []) i 0 ≡ get_or hashes i 0
+  same p i lp e = get_or-append hashes (hash ∷ []) 0 i (in_list hashes (positions slots) are.table p i lp e)
+
   -- one more index may be inserted into them
   pub accepts : (part : ℕ) → part ≡ kept (length slots) hash → length slots < 2 ^ 64 → Accepts (hashes ++ hash ∷ []) slots position part
   accepts part is limited = record {
     fits = omega (arith, room, limited);
     hash_is = is ∙ ap (kept (length slots)) (sym (ap (λ n. get_or (hashes ++ hash ∷ []) n 0) next ∙ get_or-append_seam hashes hash [] 0));
-    hashes_are = hashes-as (length slots) hashes (hashes ++ hash ∷ []) slots are.hashes_are
-        (λ p i lp e. get_or-append hashes (hash ∷ []) 0 i (in_list hashes (positions slots) are.table p i lp e));
-    ordered = (holds_pushed hashes hash (positions slots) are.table).ordered;
+    hashes_are = hashes-as (length slots) hashes (hashes ++ hash ∷ []) slots are.hashes_are same;
+    ordered = ordered-as hashes (hashes ++ hash ∷ []) (positions slots) are.table.ordered same;
     empty = left_empty hashes (positions slots) are.table (omega (arith, next, room, positions-length slots));
   }
 

@@ -1,8 +1,8 @@
 -- Slots before and after the insertion of an index.
-use Rattle.std.specs.Prelude.{◌≡◌, ℕ, ◌+◌, ◌<◌, ◌≤◌, ◌^◌, List, length, get_or, None}
+use Rattle.std.specs.Prelude.{◌≡◌, ℕ, ◌+◌, ◌<◌, ◌≤◌, ◌^◌, List, length, get_or, Some, None}
 use Rattle.ijson_table.specs.declared.slot.Slot.{Slot}
 use Rattle.ijson_table.specs.Crowd.{distance}
-use Rattle.ijson_table.specs.Slots.{resident, times, IsOrdered, IsTable}
+use Rattle.ijson_table.specs.Slots.{below, resident, IsOrdered, IsTable}
 use Rattle.ijson_table.specs.private.Changes.{changes}
 use Rattle.ijson_table.specs.private.Holds.{with_one, Holds, HasEmpty, MayStand}
 use Rattle.ijson_table.specs.private.KeptHash.{kept}
@@ -37,9 +37,14 @@ pub record Stands (hashes : List ℕ) (slots : List Slot) (position hash : ℕ) 
   pub hash_is : hash ≡ get_or hashes position 0
   pub hashes_are : HaveHashes (length slots) hashes slots
   pub ordered : IsOrdered hashes (positions slots)
-  pub there : 0 < times position (positions slots)
+  pub stands : (p : ℕ) × (p < length (positions slots)) × (resident (positions slots) p ≡ Some position)
 
 -- The slots are a table of keys with these hashes, and each has the kept part of its key's hash.
 pub record IsTableOf (hashes : List ℕ) (slots : List Slot) : Type 0 where
   pub table : IsTable hashes (positions slots)
+  pub hashes_are : HaveHashes (length slots) hashes slots
+
+-- The slots are such a table, but without one index.
+pub record IsTableBut (hashes : List ℕ) (gone : ℕ) (slots : List Slot) : Type 0 where
+  pub holds : Holds hashes (below (length hashes)) (Some gone) (positions slots)
   pub hashes_are : HaveHashes (length slots) hashes slots

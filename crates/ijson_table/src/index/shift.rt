@@ -1,12 +1,12 @@
 //! Moves of residents by their hashes: removal with backward shift, and a new hash.
 
-ghost use Rattle.std.specs.Prelude.{◌≡◌, ℕ, ◌+◌, ◌<◌, ◌%◌, ◌^◌, List, length, map, set, Some};
-ghost use Rattle.ijson_table.specs.Slots.{below, resident};
+ghost use Rattle.std.specs.Prelude.{◌≡◌, ℕ, ◌+◌, ◌<◌, ◌≤◌, ◌%◌, ◌^◌, List, length, map, set, Some};
+ghost use Rattle.ijson_table.specs.Slots.{resident};
 ghost use Rattle.ijson_table.specs.Store.{keys_of};
 ghost use Rattle.ijson_table.specs.private.Closing.{closed};
-ghost use Rattle.ijson_table.specs.private.Holds.{Holds, HasEmpty};
-ghost use Rattle.ijson_table.specs.private.Insertion.{IsTableOf, Stands};
-ghost use Rattle.ijson_table.specs.private.SlotHashes.{displacement_in, positions, HaveHashes};
+ghost use Rattle.ijson_table.specs.private.Holds.{HasEmpty};
+ghost use Rattle.ijson_table.specs.private.Insertion.{IsTableBut, IsTableOf, Stands};
+ghost use Rattle.ijson_table.specs.private.SlotHashes.{displacement_in, positions};
 ghost use Rattle.ijson_table.specs.private.Probe.{IsVacancy};
 ghost use Rattle.std.specs.List.{remove, swap_remove as swapped_out};
 
@@ -90,8 +90,7 @@ fn slot_of(slots: &Slots, modulus: Modulus, position: usize, hash: u64) -> usize
 fn take_out<V, H: KeyHash>(slots: &mut Slots, pairs: &[(IString, V)], position: usize)
     requires table { IsTableOf (map H.hash_of (keys_of pairs.now)) slots.old }
     requires within { position < length pairs.now }
-    ensures holds { Holds (map H.hash_of (keys_of pairs.now)) (below (length pairs.now)) (Some position) (positions slots.new) }
-    ensures hashes { HaveHashes (length slots.new) (map H.hash_of (keys_of pairs.now)) slots.new }
+    ensures left { IsTableBut (map H.hash_of (keys_of pairs.now)) position slots.new }
     ensures count { length slots.new ≡ length slots.old }
 {
     let modulus = Modulus::new(slots.len());
@@ -141,6 +140,7 @@ impl Slots {
     pub fn rehash_one<V, H: KeyHash>(&mut self, pairs: &[(IString, V)], position: usize, hash: u64)
         requires table { IsTableOf (map H.hash_of (keys_of pairs.now)) self.old }
         requires within { position < length pairs.now }
+        requires room { length pairs.now ≤ length self.old }
         ensures table { IsTableOf (set (map H.hash_of (keys_of pairs.now)) position hash) self.new }
         ensures count { length self.new ≡ length self.old }
     {

@@ -180,8 +180,8 @@ impl Slots {
         requires counted { modulus.count ≡ length self.now }
         requires hash { hash ≡ kept modulus.count (H.hash_of key.now) }
         requires home { home ≡ home_of H.hash_of modulus.count key.now }
-        requires fits { (m : ℕ) → m < length self.now
-            → Passed (displacement (map H.hash_of (keys_of pairs.now)) (positions self.now)) (length self.now) home m
+        requires fits { (m : ℕ) → m < length (positions self.now)
+            → Passed (displacement (map H.hash_of (keys_of pairs.now)) (positions self.now)) (length (positions self.now)) home m
             → looks.old + m + 1 < 2 ^ 128 }
         ensures grows { looks.old ≤ looks.new }
         ensures ends { Walks H.hash_of (keys_of pairs.now) (positions self.now) key.now (looks.new - looks.old) result }

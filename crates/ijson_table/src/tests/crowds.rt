@@ -109,7 +109,7 @@ fn put_one_by_one(rt: &impl Abort, alloc: Global, chosen: Chosen) -> LinearPairs
 
 /// Returns `true` if a table finds each of its keys at its index.
 fn finds_all<H: KeyHash>(table: &Table<u64, H>) -> bool {
-    for (at, pair) in table.as_slice().iter().enumerate() {
+    for (at, pair) in table.iter().enumerate() {
         if table.get_index_of(pair.0.as_str()) != Some(at) {
             return false;
         }

@@ -11,19 +11,9 @@ use Rattle.ijson_table.proofs.arithmetic.Circular.{onward-below}
 use Rattle.ijson_table.proofs.shifting.Insertion.{eqb-self}
 use Rattle.ijson_table.proofs.shifting.Vacancy.{home_here}
 use Rattle.ijson_table.proofs.slots.HashesInSlots.{positions-length, displacement-in}
-use Rattle.ijson_table.proofs.slots.Residents.{stands}
 use Rattle.ijson_table.proofs.probing.CrowdBound.{home-below}
 use Rattle.ijson_table.proofs.probing.ProbePath.{passed_by}
-use Rattle.ijson_table.proofs.index.shift.slot_of.Goals.{After-probe}
 use Rattle.ijson_table.proofs.index.shift.slot_of.Goals as goal
-
-pub new-modulus-requires : goal.new-modulus-requires
-new-modulus-requires c =
-    omega (arith, (stands c.args.position (positions c.args.slots.now) c.requires.1.there).1, positions-length c.args.slots.now, c.len.ensures)
-
--- the home slot is that of the hash
-home_is : (c : After-probe) → c.home_of_hash-home.result ≡ c.args.hash % length c.args.slots.now
-home_is c = c.home_of_hash-home.ensures.value ∙ ap (λ n. c.args.hash % n) (c.new-modulus.ensures ∙ c.len.ensures)
 
 pub returns-clause-within : goal.returns-clause-within
 returns-clause-within c =
@@ -32,7 +22,7 @@ returns-clause-within c =
     omega (
       arith,
       onward-below (length (positions c.args.slots.now)) c.home_of_hash-home.result ends.0
-          (omega (arith, c.home_of_hash-home.ensures.within, c.new-modulus.ensures, c.len.ensures, size)) (omega (arith, ends.1.within)),
+          (omega (arith, c.home_of_hash-home.ensures.within, c.requires.counted, size)) (omega (arith, ends.1.within)),
       ends.1.there,
       size,
     )
@@ -45,8 +35,7 @@ missed : (hashes : List ℕ) (slots : List Slot) (position hash m : ℕ) → Sta
 missed hashes slots position hash m s others ended =
     let ps : List (Option ℕ) = positions slots in
     let home = home_here hashes slots position hash s.hash_is in
-    let spot = stands position ps s.there in
-    let by = passed_by hashes ps s.ordered position spot.0 m spot.1 spot.2
+    let by = passed_by hashes ps s.ordered position s.stands.0 m s.stands.1 s.stands.2
     (subst (λ h. (length ps ≤ m) ⊎ (displacement hashes ps (onward (length ps) h m) ≤ m)) home ended) in
     let no_it_is : eqb position position ≡ false = others by.0 position by.1 (ap (λ h. resident ps (onward (length ps) h by.0)) home ∙ by.2) in
     let bad : ◌≡◌ {A = Bool} true false = sym (eqb-self position) ∙ no_it_is in
@@ -76,6 +65,6 @@ no_other hashes slots position hash looks s (Vacant p) ends is =
 pub unreachable-requires : goal.unreachable-requires
 unreachable-requires c =
     let looks : ℕ = c.probe.new.looks - c.new.result in
-    no_other c.requires.0 c.args.slots.now c.args.position c.args.hash looks c.requires.1 c.probe.result
+    no_other c.requires.stands.0 c.args.slots.now c.args.position c.args.hash looks c.requires.stands.1 c.probe.result
     (subst (λ h. Ends (positions c.args.slots.now) (displacement_in c.args.slots.now) h (λ i. eqb i c.args.position) looks c.probe.result)
-    (home_is (goal.at.unreachable-requires c).After-probe) c.probe.ensures.ends) c.in-Vacant.is
+    (c.home_of_hash-home.ensures.value ∙ ap (λ n. c.args.hash % n) c.requires.counted) c.probe.ensures.ends) c.in-Vacant.is

@@ -1,1 +1,21 @@
+use Rattle.std.proofs.Common.{◌≡◌, ℕ, ◌+◌, List, Some, length, map}
+use Rattle.ijson_table.specs.declared.slot.Slot.{Slot}
+use Rattle.ijson_table.specs.Slots.{below, times}
+use Rattle.ijson_table.specs.Store.{keys_of}
+use Rattle.ijson_table.specs.private.Holds.{one_if, HasGap}
+use Rattle.ijson_table.specs.private.SlotHashes.{positions, HaveHashes}
+use Rattle.ijson_table.proofs.shifting.BackwardShift.{all_displacements}
 use Rattle.ijson_table.proofs.index.shift.take_out.Given as goal
+
+-- The slots have a gap, and each index but one.
+pub record HasGapAt (hashes : List ℕ) (gone count : ℕ) (slots : List Slot) (gap : ℕ) : Type 0 where
+  pub gap_is : HasGap hashes (positions slots) gap
+  pub placed : (i : ℕ) → times i (positions slots) + one_if i (Some gone) ≡ below (length hashes) i
+  pub hashes_are : HaveHashes (length slots) hashes slots
+  pub size : length slots ≡ count
+
+abbrev pub invariant-loop-modulus : goal.invariant-loop-modulus
+invariant-loop-modulus g l = HasGapAt (map g.H.KeyHash.hash_of (keys_of l.fn.pairs)) l.fn.position (length l.fn.slots) l.slots l.gap
+
+abbrev pub decreases-loop-modulus : goal.decreases-loop-modulus
+decreases-loop-modulus g l = all_displacements (map g.H.KeyHash.hash_of (keys_of l.fn.pairs)) (positions l.slots)

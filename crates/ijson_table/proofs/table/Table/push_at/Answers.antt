@@ -1,47 +1,56 @@
-use Rattle.std.proofs.Common.{◌≡◌, ◌<◌, [], ◌∷◌, ◌++◌, length, arith, ap, ap₂, sym, ◌∙◌, subst, refl, length-append}
+use Rattle.std.proofs.Common.{◌≡◌, ◌<◌, [], ◌∷◌, ◌++◌, List, ℕ, length, arith, ap, ap₂, sym, ◌∙◌, subst, refl, length-append}
 use Rattle.std.specs.Prelude.{vec_capacity}
 use Rattle.ijson_table.specs.Crowd.{slot_count}
 use Rattle.ijson_table.specs.Placed.{Placed}
-use Rattle.ijson_table.specs.Store.{keys_of}
 use Rattle.ijson_table.specs.private.Holds.{MayStand}
-use Rattle.ijson_table.specs.private.KeptHash.{kept, kept_hash}
-use Rattle.ijson_table.proofs.pairs.Shown.{count_shown, hashes_in, pairs_shown, room_shown}
+use Rattle.ijson_table.specs.private.Insertion.{IsTableOf, MayPut}
+use Rattle.ijson_table.specs.private.KeptHash.{kept}
+use Rattle.ijson_table.specs.private.SlotHashes.{positions}
+use Rattle.ijson_table.proofs.pairs.Shown.{count_shown, pairs_shown, room_shown}
 use Rattle.ijson_table.proofs.pairs.NewPairs.{still_distinct}
-use Rattle.ijson_table.proofs.probing.KeyHashes.{hashes, hashes-push}
-use Rattle.ijson_table.proofs.slots.KeptHashes.{kept_once, may_by_kept}
-use Rattle.ijson_table.proofs.table.Table.push_at.Goals.{After-kept_hash-kept, After-len-position}
+use Rattle.ijson_table.proofs.probing.KeyHashes.{hashes, hashes-push, length-hashes}
+use Rattle.ijson_table.proofs.slots.NarrowSlots.{may_hold}
+use Rattle.ijson_table.proofs.slots.SlotTables.{accepts, pushed}
+use Rattle.ijson_table.proofs.table.Table.push_at.Goals.{After-push_reserved}
 use Rattle.ijson_table.proofs.table.Table.push_at.Goals as goal
 
 -- the list has capacity for a pair
-room : (g : _) (c : After-len-position g) → length c.self.inside.pairs.items < vec_capacity c.self.inside.pairs
+room : (g : _) (c : After-push_reserved g) → length c.self.inside.pairs.items < vec_capacity c.self.inside.pairs
 room g c = omega (arith, c.requires.room, count_shown c.self.view_is, room_shown c.self.view_is)
 
--- the index is the next one
-next : (g : _) (c : After-len-position g) → c.len-position.result ≡ length c.self.inside.index.hashes
-next g c = omega (arith, c.len-position.ensures, c.self.inside.pairs.ok.0, hashes_in c.self.invariant)
+-- the hashes of the keys
+abbrev old : (g : _) (c : After-push_reserved g) → List ℕ
+old g c = hashes g.H.KeyHash.hash_of c.self.inside.pairs.items
 
--- the hash index gets the kept part of the hash
-kept_is : (g : _) (c : After-kept_hash-kept g) → c.kept_hash-kept.result ≡ kept (length c.self.inside.index.slots) c.args.hash
-kept_is g c = c.kept_hash-kept.ensures ∙ ap (λ n. kept n c.args.hash) (c.new.ensures ∙ c.len.ensures.count)
+-- the index is the next one, and there is a slot for it
+next : (g : _) (c : After-push_reserved g) → c.len-position.result ≡ length (old g c)
+next g c = omega (arith, c.len-position.ensures, c.self.inside.pairs.ok.0, length-hashes g.H.KeyHash.hash_of c.self.inside.pairs.items)
 
-pub push_at-requires-clause-may : goal.push_at-requires-clause-may
-push_at-requires-clause-may g c =
-    let hash = g.H.KeyHash.hash_of in
-    let slots = c.self.inside.index.slots in
-    let pairs = c.self.inside.pairs.items in
-    let place = goal.at.push_at-requires-clause-may g c in
-    subst (λ n. MayStand (c.self.inside.index.hashes ++ c.kept_hash-kept.result ∷ []) slots n c.args.slot)
-    (sym (next g place.After-len-position))
-    (subst (λ h. MayStand (c.self.inside.index.hashes ++ h ∷ []) slots (length c.self.inside.index.hashes) c.args.slot)
-    (sym (kept_is g place.After-kept_hash-kept))
-    (subst (λ hs. MayStand (hs ++ kept (length slots) c.args.hash ∷ []) slots (length hs) c.args.slot) (sym c.self.invariant.hashes)
-    (may_by_kept hash (keys_of pairs) slots c.args.hash c.args.slot
-    (subst (λ (t : Placed g.row.V.Denot). MayStand (hashes hash t.store.pairs ++ c.args.hash ∷ []) t.slots
-    (length (hashes hash t.store.pairs)) c.args.slot) (sym c.self.view_is) c.requires.may))))
+inside : (g : _) (c : After-push_reserved g) → c.len-position.result < length c.self.inside.slots
+inside g c = omega (arith, room g c, next g c, length-hashes g.H.KeyHash.hash_of c.self.inside.pairs.items, c.self.invariant.size)
 
-pub push_at-requires-clause-kept : goal.push_at-requires-clause-kept
-push_at-requires-clause-kept g c = kept_once (length c.self.inside.index.slots) c.new.result.count c.args.hash c.kept_hash-kept.result
-    c.kept_hash-kept.ensures (c.new.ensures ∙ c.len.ensures.count)
+-- the slots keep this part of the hash
+part : (g : _) (c : After-push_reserved g) → c.kept_hash-kept.result ≡ kept (length c.self.inside.slots) c.args.hash
+part g c = c.kept_hash-kept.ensures ∙ ap (λ n. kept n c.args.hash) (c.new.ensures ∙ c.len.ensures)
+
+may : (g : _) (c : After-push_reserved g) → MayPut (old g c ++ c.args.hash ∷ []) c.self.inside.slots c.len-position.result c.kept_hash-kept.result
+    c.args.slot
+may g c = (
+  accepts (old g c) c.self.inside.slots c.self.invariant.table c.len-position.result c.args.hash (next g c) (inside g c)
+      c.kept_hash-kept.result (part g c) (omega (arith, c.self.invariant.size, c.self.invariant.room.limited)),
+  subst (λ n. MayStand (old g c ++ c.args.hash ∷ []) (positions c.self.inside.slots) n c.args.slot) (sym (next g c))
+      (subst (λ (t : Placed g.row.V.Denot). MayStand (hashes g.H.KeyHash.hash_of t.store.pairs ++ c.args.hash ∷ []) t.slots
+      (length (hashes g.H.KeyHash.hash_of t.store.pairs)) c.args.slot) (sym c.self.view_is) c.requires.may),
+)
+
+pub shift_forward-requires-clause-may : goal.shift_forward-requires-clause-may
+shift_forward-requires-clause-may g c =
+    let w = (goal.at.shift_forward-requires-clause-may g c).After-push_reserved in (old g w ++ c.args.hash ∷ [], may g w)
+
+pub shift_forward-requires-clause-narrow : goal.shift_forward-requires-clause-narrow
+shift_forward-requires-clause-narrow g c =
+    let w = (goal.at.shift_forward-requires-clause-narrow g c).After-push_reserved in
+    may_hold (length c.self.inside.slots) c.len-position.result c.kept_hash-kept.result c.args.hash (part g w) (inside g w)
 
 pub invariant_of-self-inside : goal.invariant_of-self-inside
 invariant_of-self-inside g c =
@@ -50,26 +59,24 @@ invariant_of-self-inside g c =
 
 pub invariant_of-self : goal.invariant_of-self
 invariant_of-self g c =
-    let hash = g.H.KeyHash.hash_of in
-    let n = length c.self.inside.index.slots in
-    let short = kept_hash n hash in
-    let old = c.self.inside.pairs.items in
-    let pushed = c.push_reserved.ensures.items in
-    let place = goal.at.invariant_of-self g c in
+    let w = (goal.at.invariant_of-self g c).After-push_reserved in
+    let items = c.push_reserved.ensures.items in
+    let put = c.shift_forward.ensures (old g w ++ c.args.hash ∷ []) (may g w) in
     record {
       room = record {
         within = omega (
           arith,
-          ap length pushed,
-          length-append old ((c.args.key, c.args.value) ∷ []),
+          ap length items,
+          length-append c.self.inside.pairs.items ((c.args.key, c.args.value) ∷ []),
           c.push_reserved.ensures.capacity,
-          room g place.After-len-position,
+          room g w,
         );
         limited = omega (arith, c.self.invariant.room.limited, c.push_reserved.ensures.capacity);
       };
-      hashes = c.push_at.ensures.hashes ∙ (ap (λ hs. hs ++ c.kept_hash-kept.result ∷ []) c.self.invariant.hashes
-          ∙ (ap (λ h. hashes short old ++ h ∷ []) (kept_is g place.After-kept_hash-kept ∙ ap (kept n) c.requires.hash)
-          ∙ (sym (hashes-push short old c.args.key c.args.value) ∙ ap₂ (λ k ps. hashes (kept_hash k hash) ps)
-          (sym c.push_at.ensures.count) (sym pushed))));
-      size = c.push_at.ensures.count ∙ (c.self.invariant.size ∙ ap slot_count (sym c.push_reserved.ensures.capacity));
+      table = subst (λ hs. IsTableOf hs c.shift_forward.new.self) (ap (λ h. old g w ++ h ∷ []) c.requires.hash
+          ∙ (sym (hashes-push g.H.KeyHash.hash_of c.self.inside.pairs.items c.args.key c.args.value)
+          ∙ ap (hashes g.H.KeyHash.hash_of) (sym items)))
+          (pushed (old g w) c.self.inside.slots c.self.invariant.table c.len-position.result c.args.hash (next g w) (inside g w)
+          c.shift_forward.new.self put.count put.holds put.hashes_are);
+      size = put.count ∙ (c.self.invariant.size ∙ ap slot_count (sym c.push_reserved.ensures.capacity));
     }

@@ -1,35 +1,12 @@
-use Rattle.std.proofs.Common.{◌≡◌, length, get_or, map, set, arith, rules, refl, ap, ap₂, sym, ◌∙◌, subst}
-use Rattle.std.proofs.lemmas.List.{length-map, length-set, map-set}
+use Rattle.std.proofs.Common.{◌≡◌, length, map, set, arith, rules, refl, ap, ap₂, sym, ◌∙◌, subst}
+use Rattle.std.proofs.lemmas.List.{length-set, map-set}
 use Rattle.ijson_table.specs.Placed.{Placed}
 use Rattle.ijson_table.specs.Store.{at, keys_of, with_key, IsDistinct}
-use Rattle.ijson_table.specs.private.KeptHash.{kept, kept_hash}
+use Rattle.ijson_table.specs.private.Insertion.{IsTableOf}
 use Rattle.ijson_table.proofs.pairs.OtherKeys.{distinct_with_key, keys-with_key, set-key}
-use Rattle.ijson_table.proofs.pairs.PairsByKey.{keys-length}
 use Rattle.ijson_table.proofs.pairs.Shown.{count_shown, pairs_shown}
-use Rattle.ijson_table.proofs.slots.KeptHashes.{kept_once}
 use Rattle.ijson_table.proofs.table.Table.replace_key_at.Goals.{After-replace}
 use Rattle.ijson_table.proofs.table.Table.replace_key_at.Goals as goal
-
-pub rehash_one-requires : goal.rehash_one-requires
-rehash_one-requires g c = let old = c.self.inside.pairs.items in let hash = g.H.KeyHash.hash_of in (
-  refl,
-  (
-    omega (
-      arith,
-      ap length c.self.invariant.hashes,
-      length-map (keys_of old) (kept_hash (length c.self.inside.index.slots) hash),
-      keys-length old,
-      c.requires.within,
-      count_shown c.self.view_is,
-    ),
-    (
-      c.hash_at-was.ensures ∙ (sym (ap (λ (t : Placed g.row.V.Denot). get_or (map (kept_hash (length t.slots) hash)
-          (keys_of t.store.pairs)) c.args.index 0) c.self.view_is) ∙ ap (λ hs. get_or hs c.args.index 0) (sym c.self.invariant.hashes)),
-      kept_once (length c.self.inside.index.slots) c.new.result.count c.hash.result c.kept_hash-hash.result
-          c.kept_hash-hash.ensures (c.new.ensures ∙ c.len.ensures.count),
-    ),
-  ),
-)
 
 -- the pairs with the new key
 now : (g : _) (c : After-replace g) → set c.self.inside.pairs.items c.args.index (c.replace.new.dest, c.index_mut.result.now.1)
@@ -50,8 +27,6 @@ invariant_of-self-inside g c = (
 pub invariant_of-self : goal.invariant_of-self
 invariant_of-self g c =
     let hash = g.H.KeyHash.hash_of in
-    let n = length c.self.inside.index.slots in
-    let short = kept_hash n hash in
     let old = c.self.inside.pairs.items in
     let index = c.args.index in
     let hashed : c.hash.result ≡ hash c.args.key = search rules in
@@ -60,12 +35,11 @@ invariant_of-self g c =
         within = omega (arith, length-set old index (c.replace.new.dest, c.index_mut.result.now.1), c.self.invariant.room.within);
         limited = c.self.invariant.room.limited;
       };
-      hashes = c.rehash_one.ensures.hashes
-          ∙ (ap₂ (λ hs h. set hs index h) c.self.invariant.hashes
-          (c.kept_hash-hash.ensures ∙ ap₂ kept (c.new.ensures ∙ c.len.ensures.count) hashed)
-          ∙ (sym (map-set short (keys_of old) index c.args.key)
-          ∙ (ap (map short) (sym (keys-with_key old index c.args.key))
-          ∙ ap₂ (λ k ps. map (kept_hash k hash) (keys_of ps)) (sym c.rehash_one.ensures.count) (sym (now g (goal.at.invariant_of-self g c).After-replace)))));
+      table = subst (λ hs. IsTableOf hs c.rehash_one.new.self)
+          (ap₂ (λ ps h. set (map hash (keys_of ps)) index h) c.deref.ensures.value hashed
+          ∙ (sym (map-set hash (keys_of old) index c.args.key) ∙ (ap (map hash) (sym (keys-with_key old index c.args.key))
+          ∙ ap (λ ps. map hash (keys_of ps)) (sym (now g (goal.at.invariant_of-self g c).After-replace)))))
+          c.rehash_one.ensures.table;
       size = c.rehash_one.ensures.count ∙ c.self.invariant.size;
     }
 

@@ -2,8 +2,8 @@ use Rattle.std.proofs.Common.{ℕ, ◌+◌, ◌-◌, ◌*◌, ◌≤◌, ◌^◌
 use Rattle.std.proofs.Math.Nat.{mul-le-mul_right}
 use Rattle.ijson_table.specs.BuildBound.{looks_a_pair}
 use Rattle.ijson_table.proofs.pairs.Shown.{pairs_shown}
-use Rattle.ijson_table.proofs.table.Table.index_with_capacity.Goals.{After-fill_sorted}
-use Rattle.ijson_table.proofs.table.Table.index_with_capacity.Goals as goal
+use Rattle.ijson_table.proofs.table.Table.slots_with_capacity.Goals.{After-fill_sorted}
+use Rattle.ijson_table.proofs.table.Table.slots_with_capacity.Goals as goal
 
 -- the inspections of insertion up to the bound, and of sorting
 few : (g : _) (c : After-fill_sorted g) (k : ℕ) → c.args.capacity ≤ 2 ^ k
@@ -17,7 +17,7 @@ few g c k fits =
       mul-le-mul_right k within,
       c.add.ensures,
       c.add_new_keys-placed.ensures.steps,
-      c.in_ok-index.ensures.count,
+      c.in_ok-slots.ensures.count,
       c.slots_for-count.ensures,
     )
 

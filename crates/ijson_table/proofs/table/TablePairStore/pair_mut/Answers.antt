@@ -1,8 +1,8 @@
-use Rattle.std.proofs.Common.{◌≡◌, ◌<◌, length, arith, ap, sym, ◌∙◌, refl}
+use Rattle.std.proofs.Common.{◌≡◌, ◌<◌, length, arith, ap, subst, sym, ◌∙◌, refl}
 use Rattle.std.proofs.lemmas.List.{length-set}
 use Rattle.ijson_table.specs.Store.{with_value}
 use Rattle.ijson_table.specs.Placed.{Placed}
-use Rattle.ijson_table.specs.private.KeptHash.{kept_hash}
+use Rattle.ijson_table.specs.private.Insertion.{IsTableOf}
 use Rattle.ijson_table.proofs.pairs.Shown.{pairs_shown, room_shown}
 use Rattle.ijson_table.proofs.pairs.PairsByKey.{set-value, distinct_set, slice_get-seen}
 use Rattle.ijson_table.proofs.probing.KeyHashes.{hashes-set}
@@ -27,9 +27,8 @@ invariant_of-self-lent g c = λ w.
         within = omega (arith, c.self.invariant.room.within, length-set old c.args.index (pair.0, w));
         limited = c.self.invariant.room.limited;
       };
-      hashes = c.self.invariant.hashes
-          ∙ sym (hashes-set (kept_hash (length c.self.inside.index.slots) g.H.KeyHash.hash_of) old c.args.index pair w li
-          c.index_mut-pair.ensures.value);
+      table = subst (λ hs. IsTableOf hs c.self.inside.slots)
+          (sym (hashes-set g.H.KeyHash.hash_of old c.args.index pair w li c.index_mut-pair.ensures.value)) c.self.invariant.table;
       size = c.self.invariant.size;
     }
 

@@ -1,10 +1,10 @@
-use Rattle.std.proofs.Common.{◌≡◌, ◌<◌, length, map, arith, ap, ap₂, sym, ◌∙◌, subst}
+use Rattle.std.proofs.Common.{◌≡◌, ◌<◌, length, map, arith, ap, sym, ◌∙◌, subst}
 use Rattle.std.specs.List.{remove}
 use Rattle.ijson_table.proofs.pairs.Shown.{count_shown, pairs_shown}
 use Rattle.ijson_table.proofs.pairs.PairsByKey.{slice_get-seen}
 use Rattle.ijson_table.specs.Crowd.{slot_count}
 use Rattle.ijson_table.specs.Store.{keys_of, shift_out, IsDistinct}
-use Rattle.ijson_table.specs.private.KeptHash.{kept_hash}
+use Rattle.ijson_table.specs.private.Insertion.{IsTableOf}
 use Rattle.ijson_table.proofs.shifting.ListShiftOut.{distinct_shifted, keys-shift_out, map-remove}
 use Rattle.ijson_table.proofs.table.TablePairStore.shift_out.Goals as goal
 
@@ -17,7 +17,7 @@ invariant_of-self-inside g c =
 
 pub invariant_of-self : goal.invariant_of-self
 invariant_of-self g c =
-    let hash = kept_hash (length c.self.inside.index.slots) g.H.KeyHash.hash_of in
+    let hash = g.H.KeyHash.hash_of in
     let old = c.self.inside.pairs.items in
     let left : map hash (keys_of (shift_out old c.args.index)) ≡ remove (map hash (keys_of old)) c.args.index =
     ap (map hash) (keys-shift_out old c.args.index) ∙ map-remove hash (keys_of old) c.args.index in
@@ -33,9 +33,10 @@ invariant_of-self g c =
         );
         limited = omega (arith, c.self.invariant.room.limited, c.remove.ensures.capacity);
       };
-      hashes = c.shift_remove.ensures.hashes ∙ (ap (λ hs. remove hs c.args.index) c.self.invariant.hashes
-          ∙ (sym left ∙ ap₂ (λ n ps. map (kept_hash n g.H.KeyHash.hash_of) (keys_of ps)) (sym c.shift_remove.ensures.count)
-          (sym c.remove.ensures.items)));
+      table = subst (λ hs. IsTableOf hs c.shift_remove.new.self)
+          (ap (λ ps. remove (map hash (keys_of ps)) c.args.index) c.deref.ensures.value ∙ (sym left
+          ∙ ap (λ ps. map hash (keys_of ps)) (sym c.remove.ensures.items)))
+          c.shift_remove.ensures.table;
       size = c.shift_remove.ensures.count ∙ c.self.invariant.size ∙ ap slot_count (sym c.remove.ensures.capacity);
     }
 

@@ -1,9 +1,9 @@
-use Rattle.std.proofs.Common.{◌≡◌, ◌<◌, length, map, arith, ap, ap₂, sym, ◌∙◌, subst}
+use Rattle.std.proofs.Common.{◌≡◌, ◌<◌, length, map, arith, ap, sym, ◌∙◌, subst}
 use Rattle.std.specs.List.{swap_remove}
 use Rattle.ijson_table.specs.Crowd.{slot_count}
 use Rattle.ijson_table.specs.Store.{keys_of, swap_out, IsDistinct}
 use Rattle.ijson_table.specs.Placed.{Placed}
-use Rattle.ijson_table.specs.private.KeptHash.{kept_hash}
+use Rattle.ijson_table.specs.private.Insertion.{IsTableOf}
 use Rattle.ijson_table.proofs.pairs.Shown.{count_shown, pairs_shown}
 use Rattle.ijson_table.proofs.pairs.PairsByKey.{distinct_swapped, keys-length, length-swap_out, slice_get-seen, swap_out-is}
 use Rattle.ijson_table.proofs.probing.KeyHashes.{hashes-swap_out}
@@ -28,7 +28,7 @@ left g c = c.swap_remove-2.ensures.items ∙ swap_out-is c.self.inside.pairs.ite
 
 pub invariant_of-self : goal.invariant_of-self
 invariant_of-self g c =
-    let hash = kept_hash (length c.self.inside.index.slots) g.H.KeyHash.hash_of in
+    let hash = g.H.KeyHash.hash_of in
     let old = c.self.inside.pairs.items in
     record {
       room = record {
@@ -41,9 +41,10 @@ invariant_of-self g c =
         );
         limited = omega (arith, c.self.invariant.room.limited, c.swap_remove-2.ensures.capacity);
       };
-      hashes = c.swap_remove.ensures.hashes ∙ (ap (λ hs. swap_remove hs c.args.index 0) c.self.invariant.hashes
-          ∙ (sym (hashes-swap_out hash old c.args.index (within g c)) ∙ ap₂ (λ n ps. map (kept_hash n g.H.KeyHash.hash_of) (keys_of ps))
-          (sym c.swap_remove.ensures.count) (sym (left g c))));
+      table = subst (λ hs. IsTableOf hs c.swap_remove.new.self)
+          (ap (λ ps. swap_remove (map hash (keys_of ps)) c.args.index 0) c.deref.ensures.value
+          ∙ (sym (hashes-swap_out hash old c.args.index (within g c)) ∙ ap (λ ps. map hash (keys_of ps)) (sym (left g c))))
+          c.swap_remove.ensures.table;
       size = c.swap_remove.ensures.count ∙ c.self.invariant.size ∙ ap slot_count (sym c.swap_remove-2.ensures.capacity);
     }
 

@@ -1,39 +1,47 @@
-use Rattle.std.proofs.Common.{◌≡◌, ◌<◌, ℕ, List, [], length, get_or, Option, Some, None, IsTrue, ◌↔◌, arith, ap, sym, subst, ◌∙◌}
+use Rattle.std.proofs.Common.{◌≡◌, ◌<◌, ℕ, List, [], length, get_or, map, Option, Some, None, IsTrue, ◌↔◌, arith, ap, sym, subst, ◌∙◌}
 use Rattle.ijson_table.specs.Placed.{Placed}
-use Rattle.ijson_table.specs.Slots.{resident}
 use Rattle.ijson_table.specs.Sees.{Sees}
 use Rattle.ijson_table.specs.Store.{keys_of}
-use Rattle.ijson_table.specs.private.KeptHash.{kept_hash}
-use Rattle.ijson_table.specs.private.SlotHashes.{position_in, HasHash, SeenAs}
-use Rattle.ijson_table.proofs.pairs.Shown.{hashes_in}
-use Rattle.ijson_table.proofs.probing.KeyTests.{sees_slot}
+use Rattle.ijson_table.specs.private.SlotHashes.{position_in, positions, SeenAs}
+use Rattle.ijson_table.proofs.probing.KeyHashes.{length-hashes}
+use Rattle.ijson_table.proofs.probing.KeyTests.{ReadAt, read_at, sees_slot}
 use Rattle.ijson_table.proofs.probing.ProbePath.{in_list}
-use Rattle.ijson_table.proofs.slots.KeptHashes.{sees_by_hash}
+use Rattle.ijson_table.proofs.slots.HashesInSlots.{positions-length}
 use Rattle.ijson_table.proofs.table.TablePlaces.look.Goals as goal
-use Rattle.ijson_table.proofs.table.TablePlaces.look.Goals.{in-None, in-Some}
+use Rattle.ijson_table.proofs.table.TablePlaces.look.Goals.{After-at-there, in-None, in-Some}
+
+-- the slot is one of the slots
+inside : (g : _) (c : After-at-there g) → c.args.slot < length c.self.inside.slots
+inside g c = omega (
+  arith,
+  c.requires.within,
+  ap (λ (t : Placed g.row.V.Denot). length t.slots) c.self.view_is,
+  positions-length c.self.inside.slots,
+)
+
+read : (g : _) (c : After-at-there g) → ReadAt (map g.H.KeyHash.hash_of (keys_of c.self.inside.pairs.items)) c.self.inside.slots c.args.slot
+    c.at-there.result
+read g c = read_at _ c.self.inside.slots c.args.slot c.at-there.result c.self.invariant.table.hashes_are (inside g c) c.at-there.ensures.value
 
 pub has_key-same-requires : goal.has_key-same-requires
 has_key-same-requires g c =
-    let index = c.self.inside.index in
-    let there : resident index.slots c.args.slot ≡ Some c.in-Some.at =
-    sym c.at-there.ensures.position ∙ (sym c.position.ensures ∙ c.in-Some.is) in
-    let within : c.args.slot < length index.slots = omega
-    (arith, c.requires.within, ap (λ (t : Placed g.row.V.Denot). length t.slots) c.self.view_is) in
+    let w = (goal.at.has_key-same-requires g c).After-at-there in
     omega (
       arith,
-      in_list index.hashes index.slots c.at-there.ensures.table c.args.slot c.in-Some.at within there,
-      hashes_in c.self.invariant,
+      in_list _ (positions c.self.inside.slots) c.self.invariant.table.table c.args.slot c.in-Some.at
+          (omega (arith, inside g w, positions-length c.self.inside.slots))
+          (sym (read g w).position ∙ (sym c.position.ensures ∙ c.in-Some.is)),
+      length-hashes g.H.KeyHash.hash_of c.self.inside.pairs.items,
       ap length c.deref.ensures.value,
     )
 
 pub returns-clause-sees : goal.returns-clause-sees
 returns-clause-sees g c =
     let hash = g.H.KeyHash.hash_of in
-    let index = c.self.inside.index in
-    let pairs = c.self.inside.pairs.items in
-    let keys : List (List ℕ) = keys_of pairs in
+    let keys : List (List ℕ) = keys_of c.self.inside.pairs.items in
     let there = c.at-there.result in
     let key : List ℕ = c.args.key.now in
+    let was = read g (goal.at.returns-clause-sees g c).After-at-there in
     let sought : (i : ℕ) → position_in there ≡ Some i → IsTrue c.match-position.same ↔ (get_or keys i [] ≡ key) = λ i e.
     elim c.match-position.branch [
       | in-None w ↦
@@ -49,9 +57,6 @@ returns-clause-sees g c =
           (keys_of ps) w.in-Some.at [] ≡ key)) w.deref.ensures.value w.has_key-same.ensures))
     ] in
     subst (λ (t : Placed g.row.V.Denot). Sees hash (keys_of t.store.pairs) t.slots c.args.slot key c.seen.result) c.self.view_is
-    (sees_by_hash hash keys index.slots c.args.slot key c.seen.result
-    (sees_slot (kept_hash (length index.slots) hash) keys index.slots c.args.slot there c.match-position.same key c.seen.result
-    c.at-there.ensures.position
-    (subst (λ hs. HasHash hs there) c.self.invariant.hashes c.at-there.ensures.hash)
-    (subst (λ n. SeenAs there n c.args.slot c.match-position.same c.seen.result)
-    (c.new-modulus.ensures ∙ c.len.ensures.count) c.seen.ensures) sought))
+    (sees_slot (length c.self.inside.slots) hash keys (positions c.self.inside.slots) c.args.slot there c.match-position.same key c.seen.result
+    (sym (positions-length c.self.inside.slots)) was.position was.hash
+    (subst (λ n. SeenAs there n c.args.slot c.match-position.same c.seen.result) (c.new-modulus.ensures ∙ c.len.ensures) c.seen.ensures) sought)

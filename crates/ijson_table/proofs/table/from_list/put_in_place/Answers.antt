@@ -2,7 +2,6 @@ use Rattle.std.specs.Prelude.{swap}
 use Rattle.std.proofs.Common.{◌≡◌, ℕ, List, ◌+◌, ◌<◌, ◌≤◌, [], length, length-take, get_or, take, drop, arith, sym, ◌∙◌}
 use Rattle.ijson_table.specs.Store.{keys_of, put_each}
 use Rattle.ijson_table.specs.private.FirstPlaced.{FirstPlaced}
-use Rattle.ijson_table.specs.private.KeptHash.{kept_hash}
 use Rattle.ijson_table.proofs.pairs.PairsByKey.{position_within}
 use Rattle.ijson_table.proofs.pairs.PutEach.{put_each-split}
 use Rattle.ijson_table.proofs.pairs.PutInPlace.{over_keys, put_next, put_over}
@@ -45,13 +44,13 @@ loop-position-preserved g c =
     let lp : p < length old = omega (arith, c.loop-position-test.true, c.loop-position.auto.pairs) in
     let now : ℕ → List (List ℕ × g.row.V.Denot) → Type 0 = λ n ps. record {
       within : n ≤ p + 1;
-      placed : FirstPlaced (kept_hash (length c.args.index.now.slots) g.H.KeyHash.hash_of) ps n c.add_new_key.new.index;
+      placed : FirstPlaced g.H.KeyHash.hash_of ps n c.add_new_key.new.slots;
       pairs : put_each (take n ps) (drop (p + 1) ps) ≡ put_each [] c.args.pairs.now;
     } in
     let are : now c.match-add_new_key.kept c.match-add_new_key.pairs = elim c.match-add_new_key.branch [
       | in-None w ↦ rw (w.kept-is, w.pairs-is) (record {
         within = omega (arith, i.within);
-        placed = rw (← i.count) w.in-None.ensures.placed;
+        placed = w.in-None.ensures.placed;
         pairs = put_next old new k p i.within lp c.swap.ensures.after (sym w.in-None.ensures.found) ∙ i.pairs;
       })
       | in-Some w ↦

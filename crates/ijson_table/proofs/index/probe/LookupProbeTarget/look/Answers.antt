@@ -10,7 +10,7 @@ use Rattle.ijson_table.specs.private.SlotHashes.{position_in, positions, SeenAs}
 use Rattle.ijson_table.proofs.pairs.PairsByKey.{keys-length}
 use Rattle.ijson_table.proofs.probing.KeyTests.{ReadAt, read_at, same_test, other_hash, looks_at_slot}
 use Rattle.ijson_table.proofs.probing.ProbePath.{displacement-none, in_list}
-use Rattle.ijson_table.proofs.slots.HashesInSlots.{positions-length}
+use Rattle.ijson_table.proofs.slots.HashesInSlots.{positions-length, seen_at}
 use Rattle.ijson_table.proofs.index.probe.LookupProbeTarget.look.Goals as goal
 use Rattle.ijson_table.proofs.index.probe.LookupProbeTarget.look.Goals.{After-widened-there, then-there-self, else-there-self}
 
@@ -22,10 +22,12 @@ abbrev hashes : (g : _) (c : After-widened-there g) → List ℕ
 hashes g c = map g.H.KeyHash.hash_of (keys_of c.args.self.now.pairs.now)
 
 -- the value read
-read : (g : _) (c : After-widened-there g) → ReadAt (length (slots_seen g c)) (hashes g c) (slots_seen g c) c.args.slot c.widened-there.result
-read g c = read_at g.S.StoredSlot.stands_for (hashes g c) c.args.self.now.slots.now c.args.slot c.index-self-slot.result
-    c.widened-there.result c.args.self.now.table.hashes_are c.requires.within c.index-self-slot.is
-    (c.widened-there.ensures.value ∙ ap g.S.StoredSlot.stands_for (sym c.index-self-slot.is))
+read : (g : _) (c : After-widened-there g) → ReadAt (hashes g c) (slots_seen g c) c.args.slot c.widened-there.result
+read g c =
+    let within : c.args.slot < length (slots_seen g c) = omega (arith, c.requires.within, positions-length (slots_seen g c)) in
+    read_at (hashes g c) (slots_seen g c) c.args.slot c.widened-there.result c.args.self.now.table.hashes_are within
+    (c.widened-there.ensures.value ∙ (ap g.S.StoredSlot.stands_for (sym c.index-self-slot.is)
+    ∙ seen_at g.S.StoredSlot.stands_for c.args.self.now.slots.now c.args.slot c.index-self-slot.result within c.index-self-slot.is))
 
 -- an index there is one of the pairs
 listed : (g : _) (c : After-widened-there g) (i : ℕ) → position_in c.widened-there.result ≡ Some i → i < length (keys_of c.args.self.now.pairs.now)

@@ -1,83 +1,92 @@
-use Rattle.std.proofs.Common.{◌≡◌, ◌≤◌, ℕ, List, length, set, arith, ap, sym, get_or-set_other, get_or-set_same, subst, ◌∙◌}
+use Rattle.std.proofs.Common.{◌≡◌, ◌≢◌, ◌<◌, ◌≤◌, ℕ, length, get_or, map, set, arith, ap, sym, get_or-set_other, get_or-set_same, subst, ◌∙◌}
 use Rattle.std.proofs.lemmas.Bool.Decides.{nat_tests}
 use Rattle.std.proofs.lemmas.List.{length-set}
-use Rattle.ijson_table.specs.declared.slot.Slot.{Slot}
 use Rattle.ijson_table.specs.Slots.{below, times}
-use Rattle.ijson_table.specs.private.HashIndex.{HashIndex}
-use Rattle.ijson_table.specs.private.Insertion.{Accepts}
+use Rattle.ijson_table.specs.Store.{keys_of}
+use Rattle.ijson_table.specs.private.Holds.{HasEmpty}
+use Rattle.ijson_table.specs.private.Insertion.{MayPut}
 use Rattle.ijson_table.specs.private.KeptHash.{kept}
-use Rattle.ijson_table.specs.private.Narrow.{MayHold}
-use Rattle.ijson_table.specs.private.SlotHashes.{hashes_of, positions}
+use Rattle.ijson_table.specs.private.SlotHashes.{positions, HaveHashes}
+use Rattle.ijson_table.proofs.probing.KeyHashes.{hashes, length-hashes}
 use Rattle.ijson_table.proofs.shifting.Insertion.{some_empty}
-use Rattle.ijson_table.proofs.shifting.Removal.{not_pending, replaced}
+use Rattle.ijson_table.proofs.shifting.Removal.{but_hashes, but_ordered}
 use Rattle.ijson_table.proofs.shifting.Vacancy.{may_stand}
-use Rattle.ijson_table.proofs.slots.HashesInSlots.{hashes-as, positions-length}
-use Rattle.ijson_table.proofs.slots.IndexInvariant.{index_is, IsIndexOf}
+use Rattle.ijson_table.proofs.slots.HashesInSlots.{positions-length}
 use Rattle.ijson_table.proofs.slots.NarrowSlots.{may_hold}
 use Rattle.ijson_table.proofs.slots.Residents.{one_if-same}
-use Rattle.ijson_table.proofs.index.Index.rehash_one.Given.{Over}
-use Rattle.ijson_table.proofs.index.Index.rehash_one.Goals.{After-shift_forward, After-take_out}
-use Rattle.ijson_table.proofs.index.Index.rehash_one.Goals as goal
+use Rattle.ijson_table.proofs.index.slots.Slots.rehash_one.Given.{Over}
+use Rattle.ijson_table.proofs.index.slots.Slots.rehash_one.Goals.{After-kept_hash, After-take_out}
+use Rattle.ijson_table.proofs.index.slots.Slots.rehash_one.Goals as goal
 
--- the hashes are those before, and there is a slot for each
-same : (g : Over) (c : After-take_out g) → hashes_of c.self.inside.slots ≡ g.hashes
-same g c = ap (λ (l : HashIndex). l.hashes) c.self.view_is ∙ sym c.requires.0
+-- there is a slot for each index
+room : (g : Over) (c : After-take_out g) → length (hashes g.H.KeyHash.hash_of c.args.pairs.now) ≤ length c.take_out.new.slots
+room g c = omega (arith, c.requires.room, c.take_out.ensures.count, length-hashes g.H.KeyHash.hash_of c.args.pairs.now)
 
-room : (g : Over) (c : After-take_out g) → length g.hashes ≤ length c.self.inside.slots
-room g c = omega (arith, ap length (same g c), c.self.invariant.room)
+-- and the index is one of them
+inside : (g : Over) (c : After-take_out g) → c.args.position < length (hashes g.H.KeyHash.hash_of c.args.pairs.now)
+inside g c = omega (arith, c.requires.within, length-hashes g.H.KeyHash.hash_of c.args.pairs.now)
+
+-- so a slot is empty
+empty : (g : Over) (c : After-take_out g) → HasEmpty (positions c.take_out.new.slots)
+empty g c =
+    let held = c.take_out.ensures.left.holds in
+    some_empty (positions c.take_out.new.slots) (length (hashes g.H.KeyHash.hash_of c.args.pairs.now)) c.args.position
+    (λ i. omega (arith, held.placed i)) (inside g c)
+    (grind (arith, nat_tests, held.placed c.args.position, one_if-same c.args.position, inside g c))
+    (omega (arith, room g c, positions-length c.take_out.new.slots))
+
+pub new-modulus-requires : goal.new-modulus-requires
+new-modulus-requires g c = omega (arith, c.requires.within, c.requires.room, c.take_out.ensures.count, c.len.ensures)
+
+pub vacancy-slot-requires-clause-empty : goal.vacancy-slot-requires-clause-empty
+vacancy-slot-requires-clause-empty g c = empty g (goal.at.vacancy-slot-requires-clause-empty g c).After-take_out
 
 -- the index may be inserted again, by its new hash
-accepts : (g : Over) (c : After-take_out g) → Accepts (set g.hashes c.args.position c.args.hash) c.take_out.new.slots c.args.position c.args.hash
-accepts g c =
-    let hashes : List ℕ = g.hashes in
-    let position : ℕ = c.args.position in
-    let left : List Slot = c.take_out.new.slots in
-    let held = c.take_out.ensures.holds in
-    let none : times position (positions left) ≡ 0 = grind (arith, nat_tests, held.placed position, one_if-same position, c.requires.1.0) in
-    record {
-      fits = omega (arith, room g c, c.requires.1.0, c.self.invariant.limited);
-      hash_is = sym (get_or-set_same hashes position c.args.hash 0 c.requires.1.0);
-      hashes_are = hashes-as hashes (set hashes position c.args.hash) left c.take_out.ensures.hashes (λ p k lp e.
-          get_or-set_other hashes position k c.args.hash 0 (not_pending hashes (length hashes) position (positions left) held p k lp e));
-      ordered = (replaced hashes position c.args.hash (positions left) held).ordered;
-      empty = some_empty (positions left) (length hashes) position (λ i. omega (arith, held.placed i)) c.requires.1.0 none
-          (omega (arith, room g c, c.take_out.ensures.count, positions-length left));
-    }
-
-pub vacancy-slot-requires : goal.vacancy-slot-requires
-vacancy-slot-requires g c = (accepts g (goal.at.vacancy-slot-requires g c).After-take_out).empty
-
-pub shift_forward-requires : goal.shift_forward-requires
-shift_forward-requires g c =
-    let may = accepts g (goal.at.shift_forward-requires g c).After-take_out in (
-      (
-        may,
-        may_stand (set g.hashes c.args.position c.args.hash) c.take_out.new.slots c.args.position c.args.hash c.vacancy-slot.result may
-            c.vacancy-slot.ensures,
-      ),
-      subst (λ n. MayHold n c.args.position c.args.hash) (sym c.take_out.ensures.count)
-          (may_hold (length c.self.inside.slots) c.args.position c.args.hash (subst (λ n. c.args.hash ≡ kept n c.args.hash)
-          (sym (ap (λ (l : HashIndex). length l.slots) c.self.view_is) ∙ positions-length c.self.inside.slots) c.requires.1.1.1)
-          (omega (arith, c.requires.1.0, room g (goal.at.shift_forward-requires g c).After-take_out))),
+may : (g : Over) (c : After-kept_hash g) → MayPut (set (hashes g.H.KeyHash.hash_of c.args.pairs.now) c.args.position c.args.hash)
+    c.take_out.new.slots c.args.position c.kept_hash.result c.vacancy-slot.result
+may g c =
+    let was = hashes g.H.KeyHash.hash_of c.args.pairs.now in
+    let at = (goal.at.shift_forward-requires-clause-may g c).After-take_out in
+    let own = get_or-set_same was c.args.position c.args.hash 0 (inside g at) in
+    let same : (k : ℕ) → k < length was → k ≢ c.args.position → get_or (set was c.args.position c.args.hash) k 0 ≡ get_or was k 0 =
+    λ k lk other. get_or-set_other was c.args.position k c.args.hash 0 other in
+    let have = but_hashes _ _ _ c.take_out.ensures.left (set was c.args.position c.args.hash) same in (
+      record {
+        fits = omega (arith, room g at, inside g at, c.len.type_inv, c.len.ensures);
+        hash_is = c.kept_hash.ensures ∙ (ap (λ n. kept n c.args.hash) (c.new-modulus.ensures ∙ c.len.ensures)
+            ∙ ap (kept (length c.take_out.new.slots)) (sym own));
+        hashes_are = have;
+        ordered = but_ordered _ _ _ c.take_out.ensures.left (set was c.args.position c.args.hash) same;
+        empty = empty g at;
+      },
+      may_stand (set was c.args.position c.args.hash) c.take_out.new.slots c.args.position c.args.hash c.vacancy-slot.result (sym own) have
+          c.vacancy-slot.ensures,
     )
 
--- the slots after, and their hashes
-left : (g : Over) (c : After-shift_forward g) → IsIndexOf (set g.hashes c.args.position c.args.hash) c.shift_forward.new.self
-left g c = index_is (set g.hashes c.args.position c.args.hash) c.shift_forward.new.self (record {
-  table = record {
-    ordered = c.shift_forward.ensures.holds.ordered;
-    placed = λ i. omega (
-      arith,
-      c.shift_forward.ensures.holds.placed i,
-      c.take_out.ensures.holds.placed i,
-      ap (λ n. below n i) (length-set g.hashes c.args.position c.args.hash),
-    );
-  };
-  hashes_are = c.shift_forward.ensures.hashes_are;
-}) (omega (arith, c.shift_forward.ensures.count, c.take_out.ensures.count, c.self.invariant.limited))
+pub shift_forward-requires-clause-may : goal.shift_forward-requires-clause-may
+shift_forward-requires-clause-may g c = (set (hashes g.H.KeyHash.hash_of c.args.pairs.now) c.args.position c.args.hash, may g c)
 
-pub invariant_of-self : goal.invariant_of-self
-invariant_of-self g c = (left g (goal.at.invariant_of-self g c).After-shift_forward).index
+pub shift_forward-requires-clause-narrow : goal.shift_forward-requires-clause-narrow
+shift_forward-requires-clause-narrow g c = may_hold (length c.take_out.new.slots) c.args.position c.kept_hash.result c.args.hash
+    (c.kept_hash.ensures ∙ ap (λ n. kept n c.args.hash) (c.new-modulus.ensures ∙ c.len.ensures))
+    (omega (arith, c.requires.within, c.requires.room, c.take_out.ensures.count))
 
-pub returns-clause-hashes : goal.returns-clause-hashes
-returns-clause-hashes g c = (left g (goal.at.returns-clause-hashes g c).After-shift_forward).is
+pub returns-clause-table : goal.returns-clause-table
+returns-clause-table g c =
+    let was = hashes g.H.KeyHash.hash_of c.args.pairs.now in
+    let put = c.shift_forward.ensures (set was c.args.position c.args.hash) (may g (goal.at.returns-clause-table g c).After-kept_hash) in
+    record {
+      table = record {
+        ordered = put.holds.ordered;
+        placed = λ i. omega (
+          arith,
+          put.holds.placed i,
+          c.take_out.ensures.left.holds.placed i,
+          ap (λ n. below n i) (length-set was c.args.position c.args.hash),
+        );
+      };
+      hashes_are = subst (λ n. HaveHashes n (set was c.args.position c.args.hash) c.shift_forward.new.self) (sym put.count) put.hashes_are;
+    }
+
+pub returns-clause-count : goal.returns-clause-count
+returns-clause-count g c = (c.shift_forward.ensures _ (may g (goal.at.returns-clause-count g c).After-kept_hash)).count ∙ c.take_out.ensures.count

@@ -5,7 +5,7 @@ use Rattle.ijson_table.specs.declared.index.slots.Slots.TheInside.{Inside}
 use Rattle.ijson_table.specs.private.Insertion.{IsPut, MayPut}
 use Rattle.ijson_table.specs.private.Narrow.{widened}
 use Rattle.ijson_table.specs.private.NarrowSlots.{stored_slots, IsStoredByCount}
-use Rattle.ijson_table.proofs.index.slots.Slots.shift_forward.Goals.{Joined-self, in-Few, in-Narrow, in-Wide}
+use Rattle.ijson_table.proofs.index.slots.Slots.shift_forward.Goals.{in-Few, in-Narrow, in-Wide}
 use Rattle.ijson_table.proofs.index.slots.Slots.shift_forward.Goals as goal
 
 -- The represented slots before and after a call that inserts the index into the stored ones.
@@ -17,41 +17,37 @@ put_as hashes position hash from old old' new new' last last' put before after s
     (subst (λ ps. IsPut hashes old position from last' ps) after (subst (λ p. IsPut hashes old position from p new) same
     (put hashes (subst (λ ps. MayPut hashes ps position hash from) (sym before) may))))
 
--- the index is inserted, in any representation
-put : (g : _) (c : Joined-self g) → IsPut g.hashes c.args.self.now c.args.position c.args.from c.match-self.result
-    (stored_slots c.match-self.self-inside.stored)
-put g c =
-    let may : MayPut g.hashes c.args.self.now c.args.position c.args.hash c.args.from = c.requires.0 in
-    elim c.match-self.branch [
-      | in-Few w ↦
-          let few = w.in-Few.few in
-          let left = w.shift_forward.new.slots in
-          let within = subst IsStoredByCount w.in-Few.is c.self.invariant in
-          let same = take_at left (drop w.from.result few.slots) few.count
-          (omega (arith, w.shift_forward.auto.slots, length-take w.from.result few.slots, within, w.from.ensures)) in
-          put_as g.hashes c.args.position c.args.hash c.args.from _ _ _ _ _ _ w.shift_forward.ensures
-          (ap (λ n. map widened (take n few.slots)) w.from.ensures ∙ (ap stored_slots (sym w.in-Few.is) ∙ c.self.view_is))
-          (sym (ap (map widened) same) ∙ sym (ap (λ (l : Inside). stored_slots l.stored) w.self-inside-is)) (sym w.result-is) may
-      | in-Narrow w ↦
-          let left = w.shift_forward-in-Narrow.new.slots in
-          let same = with_items_is w.in-Narrow.slots left (omega (arith, w.shift_forward-in-Narrow.auto.slots, w.deref_mut.ensures.len)) in
-          put_as g.hashes c.args.position c.args.hash c.args.from _ _ _ _ _ _ w.shift_forward-in-Narrow.ensures
-          (ap (map widened) w.deref_mut.ensures.value ∙ (ap stored_slots (sym w.in-Narrow.is) ∙ c.self.view_is))
-          (sym (ap (map widened) same) ∙ sym (ap (λ (l : Inside). stored_slots l.stored) w.self-inside-is)) (sym w.result-is) may
-      | in-Wide w ↦
-          let slots = w.deref_mut-in-Wide.result.now in
-          let left = w.shift_forward-in-Wide.new.slots in
-          let same = with_items_is w.in-Wide.slots left
-          (omega (arith, w.shift_forward-in-Wide.auto.slots, w.deref_mut-in-Wide.ensures.len)) in
-          put_as g.hashes c.args.position c.args.hash c.args.from _ _ _ _ _ _ w.shift_forward-in-Wide.ensures
-          (map-id slots ∙ (w.deref_mut-in-Wide.ensures.value ∙ (ap stored_slots (sym w.in-Wide.is) ∙ c.self.view_is)))
-          (map-id left ∙ (sym same ∙ sym (ap (λ (l : Inside). stored_slots l.stored) w.self-inside-is))) (sym w.result-is) may
-    ]
-
 pub shift_forward-requires-in-Wide-clause-may : goal.shift_forward-requires-in-Wide-clause-may
-shift_forward-requires-in-Wide-clause-may g c = (g.hashes, subst (λ ps. MayPut g.hashes ps c.args.position c.args.hash c.args.from)
-    (sym (map-id c.deref_mut-in-Wide.result.now ∙ (c.deref_mut-in-Wide.ensures.value ∙ (ap stored_slots (sym c.in-Wide.is) ∙ c.self.view_is))))
-    c.requires.0)
+shift_forward-requires-in-Wide-clause-may c = (
+  c.requires.may.0,
+  subst (λ ps. MayPut c.requires.may.0 ps c.args.position c.args.hash c.args.from)
+      (sym (map-id c.deref_mut-in-Wide.result.now ∙ (c.deref_mut-in-Wide.ensures.value ∙ (ap stored_slots (sym c.in-Wide.is) ∙ c.self.view_is))))
+      c.requires.may.1,
+)
 
 pub returns : goal.returns
-returns g c = put g c
+returns c hashes may = elim c.match-self.branch [
+  | in-Few w ↦
+      let few = w.in-Few.few in
+      let left = w.shift_forward.new.slots in
+      let within = subst IsStoredByCount w.in-Few.is c.self.invariant in
+      let same = take_at left (drop w.from.result few.slots) few.count
+      (omega (arith, w.shift_forward.auto.slots, length-take w.from.result few.slots, within, w.from.ensures)) in
+      put_as hashes c.args.position c.args.hash c.args.from _ _ _ _ _ _ w.shift_forward.ensures
+      (ap (λ n. map widened (take n few.slots)) w.from.ensures ∙ (ap stored_slots (sym w.in-Few.is) ∙ c.self.view_is))
+      (sym (ap (map widened) same) ∙ sym (ap (λ (l : Inside). stored_slots l.stored) w.self-inside-is)) (sym w.result-is) may
+  | in-Narrow w ↦
+      let left = w.shift_forward-in-Narrow.new.slots in
+      let same = with_items_is w.in-Narrow.slots left (omega (arith, w.shift_forward-in-Narrow.auto.slots, w.deref_mut.ensures.len)) in
+      put_as hashes c.args.position c.args.hash c.args.from _ _ _ _ _ _ w.shift_forward-in-Narrow.ensures
+      (ap (map widened) w.deref_mut.ensures.value ∙ (ap stored_slots (sym w.in-Narrow.is) ∙ c.self.view_is))
+      (sym (ap (map widened) same) ∙ sym (ap (λ (l : Inside). stored_slots l.stored) w.self-inside-is)) (sym w.result-is) may
+  | in-Wide w ↦
+      let slots = w.deref_mut-in-Wide.result.now in
+      let left = w.shift_forward-in-Wide.new.slots in
+      let same = with_items_is w.in-Wide.slots left
+      (omega (arith, w.shift_forward-in-Wide.auto.slots, w.deref_mut-in-Wide.ensures.len)) in
+      put_as hashes c.args.position c.args.hash c.args.from _ _ _ _ _ _ w.shift_forward-in-Wide.ensures
+      (map-id slots ∙ (w.deref_mut-in-Wide.ensures.value ∙ (ap stored_slots (sym w.in-Wide.is) ∙ c.self.view_is)))
+      (map-id left ∙ (sym same ∙ sym (ap (λ (l : Inside). stored_slots l.stored) w.self-inside-is))) (sym w.result-is) may
+]
