@@ -6,7 +6,7 @@ use Rattle.std.proofs.lemmas.Bool.Decides.{nat_tests}
 use Rattle.std.proofs.lemmas.List.{get_or-map, length-map, length-set}
 use Rattle.std.proofs.lemmas.List.Elements.{All-get_or}
 use Rattle.std.specs.declared.cmp.Ordering.TheVariants.{Equal}
-use Rattle.ijson_table.specs.Slots.{resident, times}
+use Rattle.ijson_table.specs.Slots.{times}
 use Rattle.ijson_table.specs.private.KeyOrder.{AreEarlier, AreInOrder, IsEarlier, before_by_key, cmp_keys, entry_key, key_at_position}
 use Rattle.ijson_table.specs.private.SecondHash.{second_hash}
 use Rattle.ijson_table.specs.private.SlotHashes.{blank, position_in, positions}

@@ -39,8 +39,9 @@ set-requires-clause-fits c = subst (λ n. Fits n (get_or c.args.sorted.now c.loo
 
 pub overflow_add-next : goal.overflow_add-next
 unfolding wrapped
-overflow_add-next c = grind (arith, nat_tests, c.max-spot.ensures, c.loop-index.invariant.next, c.home_of_hash.ensures.value,
-    (are_places (goal.at.overflow_add-next c).Start).below c.loop-index.index c.loop-index-test.true, c.requires.counted, c.requires.few)
+overflow_add-next c =
+    let inside = (are_places (goal.at.overflow_add-next c).Start).below c.loop-index.index c.loop-index-test.true in
+    grind (arith, nat_tests, c.max-spot.ensures, c.loop-index.invariant.next, c.home_of_hash.ensures.value, inside, c.requires.counted, c.requires.few)
 
 pub loop-index-preserved : goal.loop-index-preserved
 loop-index-preserved c =
