@@ -1,8 +1,9 @@
 -- Writing entries sorted by home slot to empty slots, one by one.
 use Rattle.std.proofs.Common.{◌≡◌, ◌≢◌, ◌⊎◌, ℕ, suc, ◌+◌, ◌<◌, ◌≤◌, inl, inr, arith, List, length, get_or, set, take, None, ap, sym}
-use Rattle.std.proofs.Common.{refl, subst, ◌∙◌, get_or-set_other, get_or-set_same}
+use Rattle.std.proofs.Common.{refl, subst, ◌∙◌, get_or-set_other}
 use Rattle.std.specs.List.{All}
 use Rattle.std.proofs.lemmas.Bool.{cases_eq}
+use Rattle.std.proofs.lemmas.Grind.{get_or-set_at}
 use Rattle.std.proofs.lemmas.List.{length-set, take_all}
 use Rattle.std.proofs.lemmas.List.Elements.{All-get_or, All-from_get_or}
 use Rattle.ijson_table.specs.declared.slot.Slot.{Slot}
@@ -17,7 +18,8 @@ use Rattle.ijson_table.proofs.arithmetic.Circular.{after-below, after-injective}
 use Rattle.ijson_table.proofs.filling.Spots.{ArePlaces}
 use Rattle.ijson_table.proofs.probing.ProbePath.{displacement-none}
 use Rattle.ijson_table.proofs.shifting.Removal.{times-none}
-use Rattle.ijson_table.proofs.slots.HashesInSlots.{positions-length, positions-set, position-at, hashes-at, nothing_has_hash, displacement-read, all_empty}
+use Rattle.ijson_table.proofs.slots.HashesInSlots.{all_empty, displacement-read, hashes-at, nothing_has_hash}
+use Rattle.ijson_table.proofs.slots.HashesInSlots.{position-at, positions-length, positions-set}
 use Rattle.ijson_table.proofs.slots.Residents.{some_position, times-set, times-more, times-nil}
 
 -- The first k entries are in their slots, and the other slots are empty.
@@ -50,8 +52,7 @@ filled_more n p sorted places k slots lk f =
     record {
       count = length-set slots (p k) entry ∙ f.count;
       there = λ j lj. elim (cases_eq j k) [
-        | inl same ↦ ap (λ i. get_or (set slots (p k) entry) (p i) blank) same
-            ∙ (get_or-set_same slots (p k) entry blank lp ∙ ap (λ i. get_or sorted i blank) (sym same))
+        | inl same ↦ get_or-set_at slots (p k) (p j) entry blank (ap p same) lp ∙ ap (λ i. get_or sorted i blank) (sym same)
         | inr ne ↦ let less : j < k = omega (arith, lj, ne) in
             get_or-set_other slots (p k) (p j) entry blank (places.apart j k less lk) ∙ f.there j less
       ];

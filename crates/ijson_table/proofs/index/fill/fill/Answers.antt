@@ -22,15 +22,19 @@ are_places c = places c.args.modulus.count c.args.sorted.now (omega (arith, c.re
 -- the next entry is written to its slot
 place_is : (c : Joined-spot-count) → c.if-spot-count.slot ≡ place c.args.modulus.count c.args.sorted.now c.loop-index.index
 unfolding wrapped
-place_is c = elim c.if-spot-count.branch [
-  | then-spot-count w ↦ grind (arith, nat_tests, c.max-spot.ensures, c.loop-index.invariant.next, c.home_of_hash.ensures.value, w.slot-is, w.if-spot-count.true)
-  | else-spot-count w ↦ grind (arith, nat_tests, c.max-spot.ensures, c.loop-index.invariant.next, c.home_of_hash.ensures.value, w.slot-is, w.if-spot-count.false)
-]
+place_is c =
+    let next = c.loop-index.invariant.next in
+    let home = c.home_of_hash.ensures.value in
+    elim c.if-spot-count.branch [
+      | then-spot-count w ↦ grind (arith, nat_tests, c.max-spot.ensures, next, home, w.slot-is, w.if-spot-count.true)
+      | else-spot-count w ↦ grind (arith, nat_tests, c.max-spot.ensures, next, home, w.slot-is, w.if-spot-count.false)
+    ]
 
 pub set-requires-clause-within : goal.set-requires-clause-within
 set-requires-clause-within c =
     let before = goal.at.set-requires-clause-within c in
-    omega (arith, place_is before.Joined-spot-count, (are_places before.Start).below c.loop-index.index c.loop-index-test.true, c.loop-index.invariant.filled.count)
+    let inside = (are_places before.Start).below c.loop-index.index c.loop-index-test.true in
+    omega (arith, place_is before.Joined-spot-count, inside, c.loop-index.invariant.filled.count)
 
 pub set-requires-clause-fits : goal.set-requires-clause-fits
 set-requires-clause-fits c = subst (λ n. Fits n (get_or c.args.sorted.now c.loop-index.index blank)) (sym c.loop-index.invariant.filled.count)
@@ -40,8 +44,9 @@ set-requires-clause-fits c = subst (λ n. Fits n (get_or c.args.sorted.now c.loo
 pub overflow_add-next : goal.overflow_add-next
 unfolding wrapped
 overflow_add-next c =
+    let next = c.loop-index.invariant.next in
     let inside = (are_places (goal.at.overflow_add-next c).Start).below c.loop-index.index c.loop-index-test.true in
-    grind (arith, nat_tests, c.max-spot.ensures, c.loop-index.invariant.next, c.home_of_hash.ensures.value, inside, c.requires.counted, c.requires.few)
+    grind (arith, nat_tests, c.max-spot.ensures, next, c.home_of_hash.ensures.value, inside, c.requires.counted, c.requires.few)
 
 pub loop-index-preserved : goal.loop-index-preserved
 loop-index-preserved c =
