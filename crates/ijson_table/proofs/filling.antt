@@ -1,3 +1,2 @@
 pub mod FilledSlots
-pub mod HomesAscend
 pub mod Spots

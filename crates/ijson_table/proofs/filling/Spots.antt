@@ -1,39 +1,20 @@
 -- The slots to which entries sorted by home slot are written.
-use Rattle.std.proofs.Common.{◌≡◌, ◌≢◌, ℕ, zero, suc, ◌+◌, ◌-◌, ◌<◌, ◌≤◌, inl, inr, arith, max, ap, ◌∙◌}
+use Rattle.std.proofs.Common.{◌≡◌, ◌≢◌, ◌⊎◌, ℕ, zero, suc, ◌+◌, ◌-◌, ◌<◌, ◌≤◌, inl, inr, arith, List, length, get_or, max, ap}
 use Rattle.std.specs.Prelude.{ltb, if◌then◌else◌}
-use Rattle.std.proofs.lemmas.Bool.{cases_lt}
+use Rattle.std.proofs.lemmas.Bool.{cases_eq, cases_lt, leb-true}
 use Rattle.std.proofs.lemmas.Bool.Decides.{nat_tests}
+use Rattle.std.proofs.lemmas.Nat.{mod_below}
+use Rattle.ijson_table.specs.declared.slot.Slot.{Slot}
 use Rattle.ijson_table.specs.Crowd.{distance}
 use Rattle.ijson_table.specs.Slots.{after}
-use Rattle.ijson_table.specs.private.HomeOrder.{next_after}
+use Rattle.ijson_table.specs.private.HomeOrder.{home_before, home_of_entry, next_after, passing}
+use Rattle.ijson_table.specs.private.SlotHashes.{blank}
+use Rattle.ijson_table.specs.private.Sorting.{IsSortedBy}
+use Rattle.ijson_table.proofs.firsts.KeyTies.{sorted_at}
 
 -- the slot at a number below 2 * n, around the end of n slots
 unfoldable pub wrapped : ℕ → ℕ → ℕ
 wrapped n p = (if ltb p n then p else p - n)
-
-pub wrapped-below : (n p : ℕ) → p < n + n → wrapped n p < n
-unfolding wrapped
-wrapped-below n p lp = grind (arith, nat_tests)
-
--- different numbers from w on, less than n further, lead to different slots
-pub wrapped-apart : (n w p q : ℕ) → w ≤ p → p < q → q < n + w → wrapped n p ≢ wrapped n q
-unfolding wrapped
-wrapped-apart n w p q from less within same = grind (arith, nat_tests)
-
--- the next number leads to the next slot
-after-wrapped : (n p : ℕ) → p + 1 < n + n → after n (wrapped n p) ≡ wrapped n (p + 1)
-unfolding wrapped after
-after-wrapped n p lp = grind (arith, nat_tests)
-
--- also after a whole turn
-after-turned : (n p q : ℕ) → p + 1 ≡ n + q → 0 < q → q ≤ n → after n (wrapped n p) ≡ wrapped n q
-unfolding wrapped after
-after-turned n p q is some le = grind (arith, nat_tests)
-
--- a slot is as far from a home slot as its number exceeds it
-pub distance-wrapped : (n h p : ℕ) → h < n → h ≤ p → p < h + n → distance n h (wrapped n p) ≡ p - h
-unfolding wrapped distance
-distance-wrapped n h p lh le lp = grind (arith, nat_tests)
 
 module _ (h : ℕ → ℕ) (s : ℕ) where
   abbrev next : ℕ → ℕ
@@ -60,75 +41,83 @@ module _ (h : ℕ → ℕ) (s : ℕ) where
   from_start zero = omega arith
   from_start (suc k) = omega (arith, from_start k)
 
--- Home slots of at most n entries among n slots, in order.
-pub record AreHomes (h : ℕ → ℕ) (n m : ℕ) : Type 0 where
-  pub room : m ≤ n
-  pub below : (k : ℕ) → k < m → h k < n
-  pub ascend : (j k : ℕ) → j ≤ k → k < m → h j ≤ h k
+-- the number of the slot of each entry if those that pass the end take the first slots
+abbrev pub spot : ℕ → List Slot → ℕ → ℕ
+spot n sorted k = max (next_after (home_of_entry n sorted) (passing n sorted) k) (home_of_entry n sorted k)
 
--- the number of entries that pass the end if they are written from the first slot on
-abbrev pub passing : (ℕ → ℕ) → ℕ → ℕ → ℕ
-passing h n m = next_after h 0 m - n
+-- its slot
+abbrev pub place : ℕ → List Slot → ℕ → ℕ
+place n sorted k = wrapped n (spot n sorted k)
 
--- the number of the slot of each entry if those take the first slots
-abbrev pub spot : (ℕ → ℕ) → ℕ → ℕ → ℕ → ℕ
-spot h n m k = max (next_after h (passing h n m) k) (h k)
+-- Different slots for entries. Each is the home slot, or comes after one that is displaced as far, but for one slot.
+pub record ArePlaces (n : ℕ) (sorted : List Slot) (p : ℕ → ℕ) : Type 0 where
+  pub below : (k : ℕ) → k < length sorted → p k < n
+  pub apart : (j k : ℕ) → j < k → k < length sorted → p j ≢ p k
+  pub led : (k : ℕ) → k < length sorted → (distance n (home_of_entry n sorted k) (p k) ≡ 0)
+      ⊎ ((i : ℕ) × (i < length sorted) × (after n (p i) ≡ p k)
+      × (distance n (home_of_entry n sorted k) (p k) ≤ distance n (home_of_entry n sorted i) (p i) + 1))
 
-module _ (h : ℕ → ℕ) (n m : ℕ) (a : AreHomes h n m) where
+module _ (n : ℕ) (sorted : List Slot) (room : length sorted ≤ n) (ordered : IsSortedBy (home_before n) sorted) where
+  abbrev m : ℕ
+  m = length sorted
+
+  abbrev h : ℕ → ℕ
+  h k = home_of_entry n sorted k
+
   abbrev w : ℕ
-  w = passing h n m
+  w = passing n sorted
 
-  abbrev ends : ℕ → ℕ
-  ends k = next_after h w k
+  abbrev at : ℕ → ℕ
+  at k = spot n sorted k
+
+  h-below : (k : ℕ) → k < m → h k < n
+  h-below k lk = mod_below (get_or sorted k blank).hash n (omega (arith, room))
+
+  h-ascends : (j k : ℕ) → j < k → k < m → h j ≤ h k
+  h-ascends j k less lk = leb-true (h j) (h k) (sorted_at (home_before n) sorted ordered j k less lk)
 
   -- k entries, and the later ones, from the first slot on
   split : (k : ℕ) → k < m → n + w + k ≤ max (n + k) (max (h k + k) (n - 1) + m)
   split k lk = omega (
     arith,
-    upper h 0 (n - 1) k m (omega arith) (λ j lj. omega (arith, a.below j lj)),
-    upper h 0 (h k) 0 k (omega arith) (λ j lj. a.ascend j k (omega arith) lk),
+    upper h 0 (n - 1) k m (omega arith) (λ j lj. omega (arith, h-below j lj)),
+    upper h 0 (h k) 0 k (omega arith) (λ j lj. h-ascends j k lj lk),
   )
 
-  -- the last one ends where the first one begins, a turn further on
-  last : (0 < w → ends m ≡ n + w) × (ends m ≤ n + w)
-  last = (λ some. omega (arith, from_start h w m, a.room), omega (arith, from_start h w m, a.room))
+  few : 0 < m → w < n
+  few some = omega (arith, split 0 some, h-below 0 some, room)
 
-  pub spot-within : (k : ℕ) → k < m → spot h n m k < n + w
-  spot-within k lk = omega (arith, last.1, rises h w (suc k) m (omega arith))
+  -- all end within a turn
+  within : (k : ℕ) → k < m → at k < n + w
+  within k lk = omega (arith, room, from_start h w m, rises h w (suc k) m (omega arith))
 
-  pub spot-from : (k : ℕ) → w ≤ spot h n m k
-  spot-from k = omega (arith, rises h w 0 k (omega arith))
+  spot-below : (k : ℕ) → k < m → at k < n + n
+  spot-below k lk = omega (arith, within k lk, few (omega arith))
 
-  pub spot-rises : (j k : ℕ) → j < k → spot h n m j < spot h n m k
-  spot-rises j k less = omega (arith, rises h w (suc j) k (omega arith))
+  far : (k : ℕ) → k < m → distance n (h k) (place n sorted k) + h k ≡ at k
+  unfolding wrapped distance
+  far k lk =
+      let near : at k < h k + n = omega (arith, split k lk, room, upper h w (h k) 0 k (omega arith) (λ j lj. h-ascends j k lj lk)) in
+      grind (arith, nat_tests, h-below k lk, near)
 
-  -- less than a turn after the home slot
-  pub spot-near : (k : ℕ) → k < m → spot h n m k < h k + n
-  spot-near k lk =
-      omega (arith, split k lk, a.room, upper h w (h k) 0 k (omega arith) (λ j lj. a.ascend j k (omega arith) lk))
-
-  passing-within : 0 < m → w < n
-  passing-within some = omega (arith, split 0 some, a.below 0 some, a.room)
-
-  pub spot-below : (k : ℕ) → k < m → spot h n m k < n + n
-  spot-below k lk = omega (arith, spot-within k lk, passing-within (omega arith))
-
-  -- an entry that is not at home comes right after one that is displaced as far, but for one slot
-  pub previous : (k : ℕ) → k < m → spot h n m k ≢ h k
-      → (i : ℕ) × (i < m) × (after n (wrapped n (spot h n m i)) ≡ wrapped n (spot h n m k)) × (spot h n m k + h i ≤ spot h n m i + 1 + h k)
+  -- an entry that is not at home
+  previous : (k : ℕ) → k < m → at k ≢ h k → (i : ℕ) × (i < m) × (after n (place n sorted i) ≡ place n sorted k) × (at k + h i ≤ at i + 1 + h k)
+  unfolding wrapped after
   previous zero lk away =
       let i : ℕ = m - 1 in
-      let e : suc i ≡ m = omega arith in
-      let turn : spot h n m i + 1 ≡ n + w = omega (arith, last.0 (omega arith), ap ends e) in (
-        i,
-        omega arith,
-        after-turned n (spot h n m i) (spot h n m 0) (omega (arith, turn)) (omega arith) (omega (arith, passing-within lk)),
-        omega (arith, turn, a.below i (omega arith)),
-      )
-  previous (suc k) lk away = (
-    k,
-    omega arith,
-    let next : spot h n m k + 1 ≡ spot h n m (suc k) = omega arith in
-        after-wrapped n (spot h n m k) (omega (arith, spot-below (suc k) lk, next)) ∙ ap (wrapped n) next,
-    omega (arith, a.ascend k (suc k) (omega arith) lk),
-  )
+      let turn : at i + 1 ≡ n + w = omega (arith, room, from_start h w m, ap (next_after h w) (let e : suc i ≡ m = omega arith in e)) in
+      (i, omega arith, grind (arith, nat_tests, turn, few lk, away), omega (arith, turn, h-below i (omega arith)))
+  previous (suc k) lk away =
+      let next : at k + 1 ≡ at (suc k) = omega arith in
+      (k, omega arith, grind (arith, nat_tests, next, spot-below (suc k) lk), omega (arith, h-ascends k (suc k) (omega arith) lk))
+
+  pub places : ArePlaces n sorted (place n sorted)
+  unfolding wrapped
+  places = record {
+    below = λ k lk. grind (arith, nat_tests, spot-below k lk);
+    apart = λ j k less lk same. grind (arith, nat_tests, same, rises h w 0 j (omega arith), rises h w (suc j) k (omega arith), within k lk);
+    led = λ k lk. elim (cases_eq (at k) (h k)) [
+      | inl home ↦ inl (omega (arith, far k lk, home))
+      | inr away ↦ let b = previous k lk away in inr (b.0, b.1, b.2, omega (arith, b.3, far k lk, far b.0 b.1))
+    ];
+  }

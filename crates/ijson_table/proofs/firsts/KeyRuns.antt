@@ -6,15 +6,16 @@ use Rattle.std.proofs.lemmas.Bool.Decides.{nat_tests}
 use Rattle.std.proofs.lemmas.List.{get_or-map, length-map, length-set}
 use Rattle.std.proofs.lemmas.List.Elements.{All-get_or}
 use Rattle.std.specs.declared.cmp.Ordering.TheVariants.{Equal}
-use Rattle.ijson_table.specs.Slots.{resident, times}
+use Rattle.ijson_table.specs.Slots.{times}
 use Rattle.ijson_table.specs.private.KeyOrder.{AreEarlier, AreInOrder, IsEarlier, before_by_key, cmp_keys, entry_key, key_at_position}
 use Rattle.ijson_table.specs.private.SecondHash.{second_hash}
 use Rattle.ijson_table.specs.private.SlotHashes.{blank, position_in, positions}
 use Rattle.ijson_table.specs.private.Sorting.{Entry}
+use Rattle.ijson_table.proofs.building.EntriesInOrder.{entry_within}
 use Rattle.ijson_table.proofs.firsts.KeyTies.{between, lower_first, same_entry_key, sorted_at, tied}
 use Rattle.ijson_table.proofs.slots.HashesInSlots.{hashes-at, position-at, positions-length}
 use Rattle.ijson_table.proofs.slots.KeptHashes.{kept-wide}
-use Rattle.ijson_table.proofs.slots.Residents.{some_position, stands, stands_once, times-some}
+use Rattle.ijson_table.proofs.slots.Residents.{some_position, stands, stands_once}
 
 -- After k entries: earlier indices are written at the indices that were passed, and this was the last entry, or is the
 -- first.
@@ -27,23 +28,15 @@ module _ (keys : List (List ℕ)) (sorted : List Entry) (s : AreInOrder keys sor
   -- the index of an entry is one of the list
   pub is_position : (k p : ℕ) → k < length sorted → position_in (get_or sorted k blank) ≡ Some p → p < length keys
   is_position k p lk e =
-      let there : resident (positions sorted) k ≡ Some p = position-at sorted k (Some p) lk (sym e) in
-      let some = times-some p (positions sorted) k (omega (arith, lk, positions-length sorted)) there in
-      grind (arith, nat_tests, s.entries.placed p, some, length-map keys second_hash)
-
-  -- an index that was found is that of an entry
-  found : (i k : ℕ) → k < length (positions sorted) → resident (positions sorted) k ≡ Some i
-      → (k : ℕ) × (k < length sorted) × (position_in (get_or sorted k blank) ≡ Some i)
-  found i k lp at =
-      let lk : k < length sorted = omega (arith, lp, positions-length sorted) in
-      (k, lk, sym (position-at sorted k (position_in (get_or sorted k blank)) lk refl) ∙ at)
+      omega (arith, entry_within (2 ^ 64 - 1) (map second_hash keys) sorted s.entries k p lk e, length-map keys second_hash)
 
   -- each index is that of an entry
   pub spot : (i : ℕ) → i < length keys → (k : ℕ) × (k < length sorted) × (position_in (get_or sorted k blank) ≡ Some i)
   spot i li =
       let one : times i (positions sorted) ≡ 1 = grind (arith, nat_tests, s.entries.placed i, length-map keys second_hash) in
       let it = stands i (positions sorted) (omega arith) in
-      found i it.0 it.1 it.2
+      let lk : it.0 < length sorted = omega (arith, it.1, positions-length sorted) in
+      (it.0, lk, sym (position-at sorted it.0 (position_in (get_or sorted it.0 blank)) lk refl) ∙ it.2)
 
   -- no entry is empty
   pub each_stands : (k : ℕ) → k < length sorted → position_in (get_or sorted k blank) ≢ None

@@ -1,5 +1,5 @@
 -- Entries in the order of their home slots, and the slots to which they are written.
-use Rattle.std.specs.Prelude.{ℕ, zero, suc, ◌+◌, ◌%◌, Bool, leb, max, List, get_or}
+use Rattle.std.specs.Prelude.{ℕ, zero, suc, ◌+◌, ◌-◌, ◌%◌, Bool, leb, max, List, length, get_or}
 use Rattle.ijson_table.specs.private.SlotHashes.{blank}
 use Rattle.ijson_table.specs.private.Sorting.{Entry}
 
@@ -20,3 +20,7 @@ home_before n a b = leb (home_in n a) (home_in n b)
 abbrev pub next_after : (ℕ → ℕ) → ℕ → ℕ → ℕ
 next_after homes start zero = start
 next_after homes start (suc k) = max (next_after homes start k) (homes k) + 1
+
+-- the number of entries that pass the end of n slots if they are written from the first slot on
+abbrev pub passing : ℕ → List Entry → ℕ
+passing n entries = next_after (home_of_entry n entries) 0 (length entries) - n

@@ -4,7 +4,7 @@ ghost use Rattle.std.specs.Prelude.{◌≡◌, ℕ, ◌+◌, ◌-◌, ◌*◌, �
 ghost use Rattle.ijson_table.specs.Growth.{capacity_limit};
 ghost use Rattle.ijson_table.specs.Store.{keys_of};
 ghost use Rattle.ijson_table.specs.private.Entries.{AreEntries};
-ghost use Rattle.ijson_table.specs.private.HomeOrder.{home_before, home_of_entry, next_after};
+ghost use Rattle.ijson_table.specs.private.HomeOrder.{home_before, passing};
 ghost use Rattle.ijson_table.specs.private.Insertion.{IsTableOf};
 ghost use Rattle.ijson_table.specs.private.Sorting.{IsSortedBy};
 
@@ -22,7 +22,7 @@ use std::alloc::{AllocError, Global};
 fn past_end(sorted: &[Slot], modulus: Modulus) -> usize
     requires few { modulus.count ≤ 2 ^ 60 }
     requires limited { length sorted.now ≤ 2 ^ 60 }
-    ensures { result ≡ next_after (home_of_entry modulus.count sorted.now) 0 (length sorted.now) - modulus.count }
+    ensures { result ≡ passing modulus.count sorted.now }
 {
     let mut next = 0;
     for index in 0..sorted.len() {
@@ -49,11 +49,13 @@ fn fill(slots: &mut Slots, sorted: &[Slot], modulus: Modulus)
     ensures table { (hashes : List ℕ) → AreEntries modulus.count hashes sorted.now → IsTableOf hashes slots.new }
     ensures count { length slots.new ≡ length slots.old }
 {
+    let count = modulus.count;
     let mut next = past_end(sorted, modulus);
     for index in 0..sorted.len() {
         let entry = sorted[index];
         let spot = next.max(modulus.home_of_hash(entry.hash));
-        slots.set(if spot < modulus.count { spot } else { spot - modulus.count }, entry);
+        let slot = if spot < count { spot } else { spot - count };
+        slots.set(slot, entry);
         next = spot + 1;
     }
 }

@@ -1,80 +1,67 @@
-use Rattle.std.proofs.Common.{◌≡◌, ◌+◌, ℕ, length, get_or, set, arith, ap, sym, ◌∙◌, subst}
+use Rattle.std.proofs.Common.{◌≡◌, ◌+◌, ℕ, get_or, set, arith, ap, sym, ◌∙◌, subst}
 use Rattle.std.proofs.lemmas.Bool.Decides.{nat_tests}
-use Rattle.std.proofs.lemmas.List.Elements.{All-get_or}
-use Rattle.ijson_table.specs.private.HomeOrder.{home_of_entry}
 use Rattle.ijson_table.specs.private.Narrow.{Fits}
 use Rattle.ijson_table.specs.private.SlotHashes.{blank}
-use Rattle.ijson_table.proofs.filling.FilledSlots.{Filled, filled_all, filled_more, filled_none, homes, place, place-below}
-use Rattle.ijson_table.proofs.filling.Spots.{spot, spot-below, wrapped}
-use Rattle.ijson_table.proofs.slots.NarrowSlots.{all_fit}
+use Rattle.ijson_table.proofs.building.EntriesInOrder.{entry_fits}
+use Rattle.ijson_table.proofs.filling.FilledSlots.{Filled, filled_all, filled_more, filled_none}
+use Rattle.ijson_table.proofs.filling.Spots.{place, places, wrapped, ArePlaces}
 use Rattle.ijson_table.proofs.slots.SlotTables.{each_empty}
 use Rattle.ijson_table.proofs.index.fill.fill.Goals as goal
-use Rattle.ijson_table.proofs.index.fill.fill.Goals.{Joined-spot-modulus, then-spot-modulus, else-spot-modulus}
+use Rattle.ijson_table.proofs.index.fill.fill.Goals.{Start, Joined-spot-count, then-spot-count, else-spot-count}
 
 pub loop-index-init : goal.loop-index-init
 loop-index-init c = record {
   next = c.past_end-next.ensures;
-  filled = filled_none c.args.modulus.count c.args.sorted.now c.args.slots.now (sym c.requires.counted)
-      (each_empty c.args.slots.now c.requires.empty);
+  filled = filled_none c.args.modulus.count (place c.args.modulus.count c.args.sorted.now) c.args.sorted.now c.args.slots.now
+      (sym c.requires.counted) (each_empty c.args.slots.now c.requires.empty);
 }
 
+are_places : (c : Start) → ArePlaces c.args.modulus.count c.args.sorted.now (place c.args.modulus.count c.args.sorted.now)
+are_places c = places c.args.modulus.count c.args.sorted.now (omega (arith, c.requires.room, c.requires.counted)) c.requires.sorted
+
 -- the next entry is written to its slot
-place_is : (c : Joined-spot-modulus)
-    → (c.max-spot.result ≡ spot (home_of_entry c.args.modulus.count c.args.sorted.now) c.args.modulus.count (length c.args.sorted.now) c.loop-index.index)
-    × (c.if-spot-modulus.set ≡ place c.args.modulus.count c.args.sorted.now c.loop-index.index)
+place_is : (c : Joined-spot-count) → c.if-spot-count.slot ≡ place c.args.modulus.count c.args.sorted.now c.loop-index.index
 unfolding wrapped
 place_is c =
-    let n : ℕ = c.args.modulus.count in
-    let is : c.max-spot.result ≡ spot (home_of_entry n c.args.sorted.now) n (length c.args.sorted.now) c.loop-index.index =
-    grind (arith, nat_tests, c.max-spot.ensures, c.loop-index.invariant.next, c.home_of_hash.ensures.value) in (
-      is,
-      elim c.if-spot-modulus.branch [
-        | then-spot-modulus w ↦ grind (arith, nat_tests, is, w.set-is, w.if-spot-modulus.true)
-        | else-spot-modulus w ↦ grind (arith, nat_tests, is, w.set-is, w.if-spot-modulus.false)
-      ],
-    )
+    let next = c.loop-index.invariant.next in
+    let home = c.home_of_hash.ensures.value in
+    elim c.if-spot-count.branch [
+      | then-spot-count w ↦ grind (arith, nat_tests, c.max-spot.ensures, next, home, w.slot-is, w.if-spot-count.true)
+      | else-spot-count w ↦ grind (arith, nat_tests, c.max-spot.ensures, next, home, w.slot-is, w.if-spot-count.false)
+    ]
 
 pub set-requires-clause-within : goal.set-requires-clause-within
-set-requires-clause-within c = omega (
-  arith,
-  (place_is (goal.at.set-requires-clause-within c).Joined-spot-modulus).1,
-  place-below c.args.modulus.count c.args.sorted.now (omega (arith, c.requires.room, c.requires.counted)) c.requires.sorted
-      c.loop-index.index c.loop-index-test.true,
-  c.loop-index.invariant.filled.count,
-)
+set-requires-clause-within c =
+    let before = goal.at.set-requires-clause-within c in
+    let inside = (are_places before.Start).below c.loop-index.index c.loop-index-test.true in
+    omega (arith, place_is before.Joined-spot-count, inside, c.loop-index.invariant.filled.count)
 
 pub set-requires-clause-fits : goal.set-requires-clause-fits
-set-requires-clause-fits c =
-    let are = c.requires.entries.1 in
-    subst (λ n. Fits n (get_or c.args.sorted.now c.loop-index.index blank)) (sym c.loop-index.invariant.filled.count)
-    (All-get_or (Fits c.args.modulus.count) c.args.sorted.now c.loop-index.index blank c.loop-index-test.true
-    (all_fit c.requires.entries.0 c.args.modulus.count c.args.sorted.now are (omega (arith, are.count, c.requires.room, c.requires.counted))))
+set-requires-clause-fits c = subst (λ n. Fits n (get_or c.args.sorted.now c.loop-index.index blank)) (sym c.loop-index.invariant.filled.count)
+    (entry_fits c.args.modulus.count c.requires.entries.0 c.args.sorted.now c.requires.entries.1 c.loop-index.index c.loop-index-test.true
+    (omega (arith, c.requires.room, c.requires.counted)))
 
 pub overflow_add-next : goal.overflow_add-next
-overflow_add-next c = omega (
-  arith,
-  (place_is (goal.at.overflow_add-next c).Joined-spot-modulus).0,
-  spot-below (home_of_entry c.args.modulus.count c.args.sorted.now) c.args.modulus.count (length c.args.sorted.now)
-      (homes c.args.modulus.count c.args.sorted.now (omega (arith, c.requires.room, c.requires.counted)) c.requires.sorted)
-      c.loop-index.index c.loop-index-test.true,
-  c.requires.counted,
-  c.requires.few,
-)
+unfolding wrapped
+overflow_add-next c =
+    let next = c.loop-index.invariant.next in
+    let inside = (are_places (goal.at.overflow_add-next c).Start).below c.loop-index.index c.loop-index-test.true in
+    grind (arith, nat_tests, c.max-spot.ensures, next, c.home_of_hash.ensures.value, inside, c.requires.counted, c.requires.few)
 
 pub loop-index-preserved : goal.loop-index-preserved
 loop-index-preserved c =
-    let n : ℕ = c.args.modulus.count in
+    let before = goal.at.loop-index-preserved c in
+    let sorted = c.args.sorted.now in
     let k : ℕ = c.loop-index.index in
     record {
       next = grind (arith, nat_tests, c.max-spot.ensures, c.loop-index.invariant.next, c.home_of_hash.ensures.value);
-      filled = subst (Filled n c.args.sorted.now (k + 1))
-          (ap (λ p. set c.loop-index.slots p (get_or c.args.sorted.now k blank)) (sym (place_is (goal.at.loop-index-preserved c).Joined-spot-modulus).1)
-          ∙ sym c.set.ensures)
-          (filled_more n c.args.sorted.now (omega (arith, c.requires.room, c.requires.counted)) c.requires.sorted
-          k c.loop-index.slots c.loop-index-test.true c.loop-index.invariant.filled);
+      filled = subst (Filled c.args.modulus.count (place c.args.modulus.count sorted) sorted (k + 1))
+          (ap (λ p. set c.loop-index.slots p (get_or sorted k blank)) (sym (place_is before.Joined-spot-count)) ∙ sym c.set.ensures)
+          (filled_more c.args.modulus.count (place c.args.modulus.count sorted) sorted (are_places before.Start) k c.loop-index.slots
+          c.loop-index-test.true c.loop-index.invariant.filled);
     }
 
 pub returns-clause-table : goal.returns-clause-table
-returns-clause-table c = filled_all c.args.modulus.count c.loop-index.index c.args.sorted.now c.loop-index.slots
-    (omega (arith, c.requires.room, c.requires.counted)) c.requires.sorted (omega (arith, c.loop-index-test.false, c.loop-index.auto.index-end))
+returns-clause-table c = filled_all c.args.modulus.count c.loop-index.index (place c.args.modulus.count c.args.sorted.now) c.args.sorted.now
+    c.loop-index.slots (are_places (goal.at.returns-clause-table c).Start) (omega (arith, c.loop-index-test.false, c.loop-index.auto.index-end))
     c.loop-index.invariant.filled
