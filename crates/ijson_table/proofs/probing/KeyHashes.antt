@@ -18,10 +18,10 @@ module _ {V : Type 0} (hash : List ℕ → ℕ) where
   length-hashes pairs = length-map (keys_of pairs) hash ∙ keys-length pairs
 
   -- the hash of the key of a pair that was read
-  pub hash_at : (pairs : List (List ℕ × V)) (i : ℕ) (pair : List ℕ × V) (h : ℕ) → i < length pairs → pair ≡ get_or pairs i pair
-      → h ≡ hash pair.0 → h ≡ get_or (hashes pairs) i 0
-  hash_at pairs i pair h li read is = is ∙ (ap (λ p. hash p.0) read
-      ∙ sym (get_or-map hash (keys_of pairs) i [] 0 (omega (arith, li, keys-length pairs)) ∙ ap hash (key_at pairs i pair li)))
+  pub hash_at : (pairs : List (List ℕ × V)) (i : ℕ) (pair : List ℕ × V) (h : ℕ) → i < length pairs → h ≡ hash (get_or pairs i pair).0
+      → h ≡ get_or (hashes pairs) i 0
+  hash_at pairs i pair h li is =
+      is ∙ sym (get_or-map hash (keys_of pairs) i [] 0 (omega (arith, li, keys-length pairs)) ∙ ap hash (key_at pairs i pair li))
 
   -- an appended pair adds its hash
   pub hashes-push : (pairs : List (List ℕ × V)) (key : List ℕ) (value : V)
