@@ -110,13 +110,13 @@ module _ (hashes : List ℕ) (gone : ℕ) (slots : List Slot) (left : IsTableBut
     reached : (q : ℕ) → q < length ps → displacement hashes' (set ps p (Some gone)) q ≡ displacement hashes ps q
     reached q lq' = elim (cases_eq q p) [
       | inl self ↦ let n = length ps in omega (
-          arith,
-          displacement-set_same hashes' ps p (Some gone) lq,
-          displacement-some hashes ps p last there,
-          ap (λ x. distance n x p) (home-as n hashes hashes' gone last moved),
-          ap (displacement hashes' (set ps p (Some gone))) self,
-          ap (displacement hashes ps) self,
-        )
+        arith,
+        displacement-set_same hashes' ps p (Some gone) lq,
+        displacement-some hashes ps p last there,
+        ap (λ x. distance n x p) (home-as n hashes hashes' gone last moved),
+        ap (displacement hashes' (set ps p (Some gone))) self,
+        ap (displacement hashes ps) self,
+      )
       | inr other ↦ displacement-set_other hashes' ps p q (Some gone) other
           ∙ displacement-as hashes hashes' ps q (λ k e. others q k lq' other e)
     ]

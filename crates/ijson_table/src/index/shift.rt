@@ -94,7 +94,12 @@ fn take_out<V, H: KeyHash>(slots: &mut Slots, pairs: &[(IString, V)], position: 
     ensures count { length slots.new ≡ length slots.old }
 {
     let modulus = Modulus::new(slots.len());
-    let mut gap = slot_of(slots, modulus, position, H::hash(pairs[position].0.as_str()));
+    let mut gap = slot_of(
+        slots,
+        modulus,
+        position,
+        H::hash(pairs[position].0.as_str()),
+    );
     slots.set(gap, Slot::EMPTY);
     loop {
         let next = next_slot(modulus.count, gap);

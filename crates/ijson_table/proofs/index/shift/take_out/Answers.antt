@@ -97,14 +97,17 @@ new-modulus-requires g c =
 pub slot_of-gap-requires : goal.slot_of-gap-requires
 slot_of-gap-requires g c = record {
   counted = c.new-modulus.ensures ∙ c.len.ensures;
-  stands = (key_hashes g.H.KeyHash.hash_of c.args.pairs.now, record {
-    hash_is = hash_at g.H.KeyHash.hash_of c.args.pairs.now c.args.position c.index-pairs-position.result c.hash.result c.requires.within
-        c.index-pairs-position.is
-        (c.hash.ensures ∙ ap g.H.KeyHash.hash_of (c.as_str.ensures ∙ sym (ap (λ p. p.0) c.index-pairs-position.is)));
-    hashes_are = c.requires.table.hashes_are;
-    ordered = c.requires.table.table.ordered;
-    stands = stood g (goal.at.slot_of-gap-requires g c).After-len;
-  });
+  stands = (
+    key_hashes g.H.KeyHash.hash_of c.args.pairs.now,
+    record {
+      hash_is = hash_at g.H.KeyHash.hash_of c.args.pairs.now c.args.position c.index-pairs-position.result c.hash.result c.requires.within
+          c.index-pairs-position.is
+          (c.hash.ensures ∙ ap g.H.KeyHash.hash_of (c.as_str.ensures ∙ sym (ap (λ p. p.0) c.index-pairs-position.is)));
+      hashes_are = c.requires.table.hashes_are;
+      ordered = c.requires.table.table.ordered;
+      stands = stood g (goal.at.slot_of-gap-requires g c).After-len;
+    },
+  );
 }
 
 pub loop-modulus-init : goal.loop-modulus-init

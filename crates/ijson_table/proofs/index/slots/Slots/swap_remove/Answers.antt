@@ -28,14 +28,17 @@ new-modulus-requires g c =
     omega (arith, (still g (goal.at.new-modulus-requires g c).After-take_out c.if-position-last.false).1, positions-length c.take_out.new.slots, c.len.ensures)
 
 pub slot_of-there-requires-clause-stands : goal.slot_of-there-requires-clause-stands
-slot_of-there-requires-clause-stands g c = (hashes g.H.KeyHash.hash_of c.args.pairs.now, record {
-  hash_is = hash_at g.H.KeyHash.hash_of c.args.pairs.now (length c.args.pairs.now - 1) c.index-pairs-last.result c.hash.result
-      (omega (arith, c.requires.within)) c.index-pairs-last.is
-      (c.hash.ensures ∙ ap g.H.KeyHash.hash_of (c.as_str.ensures ∙ sym (ap (λ p. p.0) c.index-pairs-last.is)));
-  hashes_are = c.take_out.ensures.left.hashes_are;
-  ordered = c.take_out.ensures.left.holds.ordered;
-  stands = still g (goal.at.slot_of-there-requires-clause-stands g c).After-take_out c.if-position-last.false;
-})
+slot_of-there-requires-clause-stands g c = (
+  hashes g.H.KeyHash.hash_of c.args.pairs.now,
+  record {
+    hash_is = hash_at g.H.KeyHash.hash_of c.args.pairs.now (length c.args.pairs.now - 1) c.index-pairs-last.result c.hash.result
+        (omega (arith, c.requires.within)) c.index-pairs-last.is
+        (c.hash.ensures ∙ ap g.H.KeyHash.hash_of (c.as_str.ensures ∙ sym (ap (λ p. p.0) c.index-pairs-last.is)));
+    hashes_are = c.take_out.ensures.left.hashes_are;
+    ordered = c.take_out.ensures.left.holds.ordered;
+    stands = still g (goal.at.slot_of-there-requires-clause-stands g c).After-take_out c.if-position-last.false;
+  },
+)
 
 pub returns-clause-table : goal.returns-clause-table
 returns-clause-table g c =
