@@ -26,10 +26,6 @@ pub few-set : (n : ℕ) (slots : List NarrowSlot) (i : ℕ) (narrow : NarrowSlot
     → map widened (take n (set slots i narrow)) ≡ set (map widened (take n slots)) i slot
 few-set n slots i narrow slot same = ap (map widened) (take_set n i slots narrow) ∙ narrow-set (take n slots) i narrow slot same
 
--- the number of the first slots
-pub few-length : (n : ℕ) (slots : List NarrowSlot) → n ≤ length slots → length (map widened (take n slots)) ≡ n
-few-length n slots le = length-map (take n slots) widened ∙ length-take-le n slots le
-
 -- all of them are empty
 abbrev pub IsEmpty : List Slot → Type 0
 IsEmpty slots = All (λ slot. position_in slot ≡ None) slots
