@@ -37,12 +37,6 @@ above_cmp_is n z h =
     let e : n.exponent -ℤ pos 0 ≡ n.exponent = omega (arith, ints) in
     rescale n (integer z) (pos 0) h (omega (arith, ints)) ∙ rw (e, times_one z) refl
 
--- a whole number has the value of its mantissa and its zeros
-pub value_from : (n : Decimal) (z : ℤ) → pos 0 ≤ℤ n.exponent → z ≡ n.mantissa *ℤ pos (10 ^ nat_abs n.exponent) → HasValue n z
-value_from n z h e =
-    let c : number_cmp n (integer z) ≡ Equal = above_cmp_is n z h ∙ rw e (same_int_cmp (n.mantissa *ℤ pos (10 ^ nat_abs n.exponent))) in
-    ap (λ (o : Ordering). is_eq o) c
-
 below_cmp_is : (n : Decimal) (z : ℤ) → n.exponent ≤ℤ pos 0
     → number_cmp n (integer z) ≡ int_cmp n.mantissa (z *ℤ pos (10 ^ nat_abs (pos 0 -ℤ n.exponent)))
 below_cmp_is n z h =
