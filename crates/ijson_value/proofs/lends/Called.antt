@@ -2,9 +2,6 @@
 -- the callee's result is taken apart. Assumes `Logic`.
 use Prim.Native.Nat.{ℕ}
 use mathlib.Core.List.{List, [], ◌∷◌}
-use lib.Dec.{eqb}
-use mathlib.Core.Bool.{true, false, true≢false}
-use mathlib.Core.Path.{◌≡◌, sym, ap, ◌∙◌}
 use seplogic.Ra.Ura.{Ura}
 use mir.Syntax.{named}
 use mir.Val.{Val}
@@ -71,11 +68,3 @@ module _ {M : Type 1} {𝓤 : Ura M} (𝓛 : Logic 𝓤) {K : Type 0} {Γ : List
   back α δ n = step (λ s.
       use3 𝓛 (later (‵ ((MutRef (named 0) κ R).own_val (record r { now = n }) (mut_vals r)) ⊛ ‵ (flft κ q)))
       (comes_back 𝓛 R (named 0) κ (α ∷ []) q r.ghost_name r.ref_ptr.0 r.ref_ptr.1 δ r.now n) $ await t soaks $ split t $ s)
-
--- the number that a switch reads differs from that of an arm
-pub apart : {X : Type 1} (m n : ℕ) → eqb m n ≡ false → eqb n n ≡ true → m ≡ n → X
-apart m n other itself same = absurd (true≢false (sym itself ∙ ap (λ k. eqb k n) (sym same) ∙ other))
-
--- like `apart`, for the first of several arms
-pub past : {X Y : Type 1} (m n : ℕ) → eqb m n ≡ false → eqb n n ≡ true → Y → (m ≡ n → X) × Y
-past m n other itself arms = (apart m n other itself, arms)
