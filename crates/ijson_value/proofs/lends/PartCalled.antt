@@ -16,7 +16,7 @@ use mir.Syntax.{Body, Callee, Opd as Operand, Place, named, seq, call}
 use mir.Val.{Val, of_list}
 use prog.Wp.{Env, Calls, Loops}
 use sound.WpLaws.{FmC}
-use types.Kit.{Item, Post, Seq, mean, runs, lands, ‵, raw, ◌⊛◌, ◌$◌, move, drop, use1}
+use types.Kit.{Item, Post, Seq, mean, runs, lands, ‵, raw, ◌⊛◌, ◌$◌, move, drop, split, use1}
 use types.Logic.{Logic, sem}
 use types.Match.{live}
 use types.Run.{Opds}
@@ -43,7 +43,7 @@ module _ {M : Type 1} {𝓤 : Ura M} (𝓛 : Logic 𝓤) {K : Type 0} {Γ : List
       → ent 𝓤 (sep 𝓤 (mean 𝓛 ((‵ (flft κ q) ⊛ ‵ ftrue) ⊛ ‵ ((MutRef (named 0) κ V).own_val r (mut_vals r)) ⊛ ‵ ftrue))
       (mean 𝓛 (raw (fact 𝓤 (kind_of r.now.tree ≡ k))))) (c.pre x)
       → Opds K 𝓛 (raw (c.pre x) ∷ Γ) E xs (c.args x)
-      → ((w : Val) → ent 𝓤 (c.post x w) (mean 𝓛 (Answer κ q R w (λ part (ws : Unit {0} × Unit {0}). fsep ftrue ftrue)
+      → ((w : Val) → ent 𝓤 (c.post x w) (mean 𝓛 (Answer (‵ (flft κ q) ⊛ ‵ ftrue) R w (λ part (ws : Unit {0} × Unit {0}). fsep ftrue ftrue)
       (λ part. LendsParts r (variant part)) (λ part. mut_value (variant part) ≡ r.now))))
       → ((w : Val) (part : R.Denot) → mut_value (variant part) ≡ r.now → Typed R.mir (w ∷ []) → Typed (PartsOf (at κ)).mir (live n (of_list (w ∷ [])) ∷ [])
       → Seq K 𝓛 (‵ ((PartsOf (at κ)).own_val (variant part) (live n (of_list (w ∷ [])) ∷ [])) ∷ ‵ (LendsParts r (variant part)) ∷ ‵ (flft κ q) ∷ Γ)
@@ -52,9 +52,9 @@ module _ {M : Type 1} {𝓤 : Ura M} (𝓛 : Logic 𝓤) {K : Type 0} {Γ : List
   part_called frames k is R types variant n makes {c} met x gives reads answers go =
       asks 𝓛 t κ q ((MutRef (named 0) κ V).own_val r (mut_vals r)) (kind_of r.now.tree ≡ k) (c.pre x) is gives $
       calls_at t frames c met x reads (λ w.
-      answered 𝓛 t κ q tt R w (λ part (ws : Unit {0} × Unit {0}). fsep ftrue ftrue) (λ part. LendsParts r (variant part))
-      (λ part. mut_value (variant part) ≡ r.now) (c.post x w) (answers w) (λ part stands seen.
+      answered 𝓛 t tt (‵ (flft κ q) ⊛ ‵ ftrue) R w (λ part (ws : Unit {0} × Unit {0}). fsep ftrue ftrue) (λ part. LendsParts r (variant part))
+      (λ part. mut_value (variant part) ≡ r.now) (answers w) (λ part stands seen.
       use1 𝓛 (‵ ((PartsOf (at κ)).own_val (variant part) (live n (of_list (w ∷ [])) ∷ []))) (makes part w) $
       peeks t (PartsOf (at κ)) _ (shows 𝓛 (PartsOf (at κ))) (variant part) (live n (of_list (w ∷ [])) ∷ []) (λ told.
-      move t (3 ∷ []) $ drop t $
+      move t (2 ∷ []) $ split t $ move t (1 ∷ []) $ drop t $ move t (1 ∷ 1 ∷ []) $
       go w part stands (types part (w ∷ []) seen) (((parts_laws (at κ)).lawful 𝓛).typed (variant part) (live n (of_list (w ∷ [])) ∷ []) told))))

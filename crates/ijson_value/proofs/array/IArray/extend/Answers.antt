@@ -19,9 +19,6 @@ items-init g c = (
   (c.into_iter-rest.result, [], c.into_iter-rest.ensures.into_iter_gives, refl, sym (append-nil c.args.self.now.items)),
 )
 
-pub next_of-requires : goal.next_of-requires
-next_of-requires g c = c.items.invariant.0
-
 pub items-preserved : goal.items-preserved
 items-preserved g c =
     let inv = c.items.invariant in
@@ -44,9 +41,6 @@ returns-in-None-clause-items g c =
     let run = c.items.invariant.2 in
     (run.1, run.4, (run.0, run.2, (c.next_of.new.rest, (c.items.rest, run.3, c.in-None.ensures.gives))))
 
-pub returns-in-None-clause-capacity : goal.returns-in-None-clause-capacity
-returns-in-None-clause-capacity g c = c.items.invariant.1
-
 pub returns-in_err-push-in-Some-clause-items : goal.returns-in_err-push-in-Some-clause-items
 returns-in_err-push-in-Some-clause-items g c =
     let run = c.items.invariant.2 in
@@ -56,9 +50,6 @@ returns-in_err-push-in-Some-clause-items g c =
       refused.1 ∙ run.4,
       rw (p.1, p.2, refused.0) (run.0, c.next_of.new.rest, run.2, (c.items.rest, run.3, c.in-Some.ensures.gives)),
     )
-
-pub returns-in_err-push-in-Some-clause-capacity : goal.returns-in_err-push-in-Some-clause-capacity
-returns-in_err-push-in-Some-clause-capacity g c = le_trans c.items.invariant.1 c.push.ensures.capacity
 
 pub returns-in_err-push-in-Some-clause-room : goal.returns-in_err-push-in-Some-clause-room
 returns-in_err-push-in-Some-clause-room g c =
