@@ -195,7 +195,8 @@ pub trait PairStore<V>: Sized {
         requires { index < length (pairs self.old) }
         ensures pair { slice_get (pairs self.old) index ≡ Some result }
         ensures pairs { pairs self.new ≡ shift_out (pairs self.old) index }
-        ensures room { room self.new ≡ room self.old };
+        ensures room { room self.new ≡ room self.old }
+        ensures spare { length (pairs self.new) < room self.new };
 
     /// Returns the entries, in order, without copying them.
     fn into_pairs(self) -> Vec<(IString, V)>

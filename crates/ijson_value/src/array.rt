@@ -1,5 +1,5 @@
 //! Arrays of values.
-ghost use Rattle.std.specs.Prelude.{◌≡◌, ◌==◌, [], ◌∷◌, ◌++◌, ◌+◌, ◌*◌, ◌<◌, ◌≤◌, length, vec_capacity, OnOk, OnErr, IfOk};
+ghost use Rattle.std.specs.Prelude.{◌≡◌, ◌==◌, [], ◌∷◌, ◌++◌, ◌+◌, ◌*◌, ◌^◌, ◌<◌, ◌≤◌, length, vec_capacity, OnOk, OnErr, IfOk};
 ghost use Rattle.std.specs.Prelude.{IfErr, IsOk, IsTrue, ◌↔◌};
 ghost use Rattle.ijson_value.specs.Same.{Same};
 ghost use Rattle.ijson_value.specs.SameTest.{same};
@@ -192,6 +192,7 @@ impl IArray {
         ensures doubles { OnOk result (self.old.capacity ≤ length self.old.items
             → 2 * self.old.capacity ≤ self.new.capacity) }
         ensures capacity { self.old.capacity ≤ self.new.capacity }
+        ensures within { OnOk result (length self.new.items < 2 ^ 64) }
     {
         if let Err(AllocError) = self.reserve(1) {
             return Err(Refused(item));

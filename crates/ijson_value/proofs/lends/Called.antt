@@ -2,9 +2,6 @@
 -- the callee's result is taken apart. Assumes `Logic`.
 use Prim.Native.Nat.{ℕ}
 use mathlib.Core.List.{List, [], ◌∷◌}
-use lib.Dec.{eqb}
-use mathlib.Core.Bool.{true, false, true≢false}
-use mathlib.Core.Path.{◌≡◌, sym, ap, ◌∙◌}
 use seplogic.Ra.Ura.{Ura}
 use mir.Syntax.{named}
 use mir.Val.{Val}
@@ -22,30 +19,28 @@ use denote.Ref.{MutBor, MutRef, mut_vals}
 use denote.RattleType.{RattleType}
 use denote.Steps.{nothing, heard, peeks}
 
-module _ {M : Type 1} {𝓤 : Ura M} (κ : Lft) (q : Share) where
-  -- the result of a callee: a part, the token, the formula that the lender follows, and a fact
-  abbrev pub Answer : (R : RattleType) (w : Val) {W : Type 0} (L : R.Denot → W → Fml) (F : R.Denot → Fml) (P : R.Denot → Type 0) → Item 𝓤
-  Answer R w {W} L F P = later (some (λ (x : R.Denot). ((‵ (flft κ q) ⊛ ‵ ftrue) ⊛ ‵ (R.own_val x (w ∷ []))) ⊛
-      some (λ (ws : W). ‵ (L x ws) ⊛ ‵ (F x) ⊛ raw (fact 𝓤 (P x)))))
+-- the result of a callee: the tokens, a part, the formula that the lender follows, and a fact
+abbrev pub Answer : {M : Type 1} {𝓤 : Ura M} (tokens : Item 𝓤) (R : RattleType) (w : Val) {W : Type 0} (L : R.Denot → W → Fml)
+    (F : R.Denot → Fml) (P : R.Denot → Type 0) → Item 𝓤
+Answer {M} {𝓤} tokens R w {W} L F P = later (some (λ (x : R.Denot). (tokens ⊛ ‵ (R.own_val x (w ∷ []))) ⊛
+    some (λ (ws : W). ‵ (L x ws) ⊛ ‵ (F x) ⊛ raw (fact 𝓤 (P x)))))
 
-module _ {M : Type 1} {𝓤 : Ura M} (𝓛 : Logic 𝓤) {K : Type 0} {Γ : List (Item 𝓤)} {G : Goal 𝓤 𝓛.H} (t : K) (κ : Lft) (q : Share) where
+module _ {M : Type 1} {𝓤 : Ura M} (𝓛 : Logic 𝓤) {K : Type 0} {Γ : List (Item 𝓤)} {G : Goal 𝓤 𝓛.H} (t : K) where
   -- a value and its token are the callee's precondition, with a fact
-  pub asks : (own : Fml) (P : Type 0) (Q : SProp 𝓤) → P
+  pub asks : (κ : Lft) (q : Share) (own : Fml) (P : Type 0) (Q : SProp 𝓤) → P
       → ent 𝓤 (sep 𝓤 (mean 𝓛 ((‵ (flft κ q) ⊛ ‵ ftrue) ⊛ ‵ own ⊛ ‵ ftrue)) (mean 𝓛 (raw (fact 𝓤 P)))) Q
       → Step K 𝓛 (raw Q ∷ Γ) G (‵ own ∷ ‵ (flft κ q) ∷ Γ) G
-  asks own P Q p enough = step (λ s.
+  asks κ q own P Q p enough = step (λ s.
       nothing t $ move t (1 ∷ 0 ∷ []) $ join t $ nothing t $ move t (2 ∷ 0 ∷ []) $ join t $ join t $
       use0 𝓛 (raw (fact 𝓤 P)) (fact_i 𝓤 P (emp 𝓤) p) $ move t (1 ∷ 0 ∷ []) $ use2 𝓛 (raw Q) enough $ s)
 
-  pub answered : Soaks G → (R : RattleType) (w : Val) {W : Type 0} (L : R.Denot → W → Fml) (F : R.Denot → Fml) (P : R.Denot → Type 0)
-      (Q : SProp 𝓤)
-      → ent 𝓤 Q (mean 𝓛 (Answer κ q R w L F P))
-      → ((x : R.Denot) → P x → Is R x (w ∷ []) → Seq K 𝓛 (‵ (R.own_val x (w ∷ [])) ∷ ‵ (F x) ∷ ‵ (flft κ q) ∷ ‵ ftrue ∷ Γ) G)
-      → Seq K 𝓛 (raw Q ∷ Γ) G
-  answered soaks R w L F P Q gives k =
-      use1 𝓛 (Answer κ q R w L F P) gives $ await t soaks $ pick t (λ x. split t $ split t $ split t $ move t (3 ∷ []) $ pick t (λ ws.
+  pub answered : Soaks G → (tokens : Item 𝓤) (R : RattleType) (w : Val) {W : Type 0} (L : R.Denot → W → Fml) (F : R.Denot → Fml)
+      (P : R.Denot → Type 0) {Q : SProp 𝓤} → ent 𝓤 Q (mean 𝓛 (Answer tokens R w L F P))
+      → ((x : R.Denot) → P x → Is R x (w ∷ []) → Seq K 𝓛 (‵ (R.own_val x (w ∷ [])) ∷ ‵ (F x) ∷ tokens ∷ Γ) G) → Seq K 𝓛 (raw Q ∷ Γ) G
+  answered soaks tokens R w L F P gives k =
+      use1 𝓛 (Answer tokens R w L F P) gives $ await t soaks $ pick t (λ x. split t $ split t $ move t (2 ∷ []) $ pick t (λ ws.
       split t $ drop t $ split t $ move t (1 ∷ []) $ heard t _ (λ says.
-      move t (3 ∷ []) $ peeks t R _ (shows 𝓛 R) x (w ∷ []) (λ seen. k x says seen))))
+      move t (2 ∷ []) $ peeks t R _ (shows 𝓛 R) x (w ∷ []) (λ seen. k x says seen))))
 
 -- ---- a value that is reborrowed for a lifetime that begins, and comes back when that ends
 -- what the lender keeps
@@ -71,11 +66,3 @@ module _ {M : Type 1} {𝓤 : Ura M} (𝓛 : Logic 𝓤) {K : Type 0} {Γ : List
   back α δ n = step (λ s.
       use3 𝓛 (later (‵ ((MutRef (named 0) κ R).own_val (record r { now = n }) (mut_vals r)) ⊛ ‵ (flft κ q)))
       (comes_back 𝓛 R (named 0) κ (α ∷ []) q r.ghost_name r.ref_ptr.0 r.ref_ptr.1 δ r.now n) $ await t soaks $ split t $ s)
-
--- the number that a switch reads differs from that of an arm
-pub apart : {X : Type 1} (m n : ℕ) → eqb m n ≡ false → eqb n n ≡ true → m ≡ n → X
-apart m n other itself same = absurd (true≢false (sym itself ∙ ap (λ k. eqb k n) (sym same) ∙ other))
-
--- like `apart`, for the first of several arms
-pub past : {X Y : Type 1} (m n : ℕ) → eqb m n ≡ false → eqb n n ≡ true → Y → (m ≡ n → X) × Y
-past m n other itself arms = (apart m n other itself, arms)

@@ -132,6 +132,7 @@ impl IObject {
         ensures pair { slice_get self.old.pairs position ≡ Some result }
         ensures pairs { self.new.pairs ≡ shift_out self.old.pairs position }
         ensures capacity { self.new.capacity ≡ self.old.capacity }
+        ensures spare { length self.new.pairs < self.new.capacity }
     {
         self.table.as_mut().unwrap().shift_out(position)
     }

@@ -54,8 +54,6 @@ impl IObject {
     {
         match self.position(key.as_str()) {
             Some(found) => {
-                // The entries fit the capacity, so one fits again once one is removed.
-                let _room = self.capacity();
                 let (same, old) = self.shift_out(found);
                 drop(same);
                 self.insert_new(position, key, value);

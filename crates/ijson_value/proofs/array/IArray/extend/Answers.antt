@@ -1,4 +1,4 @@
-use Rattle.std.proofs.Common.{arith, ◌++◌, ◌^◌, ◌<◌, List, [], ◌∷◌, ◌∙◌, ap, sym, subst, refl}
+use Rattle.std.proofs.Common.{arith, ◌++◌, List, [], ◌∷◌, ◌∙◌, ap, sym, subst, refl}
 use Rattle.std.specs.Prelude.{Option, Some}
 use Rattle.std.specs.Iterator.{Yields}
 use Rattle.std.proofs.Math.Nat.{le_refl, le_trans}
@@ -16,25 +16,17 @@ pub items-init : goal.items-init
 items-init g c = (
   c.requires c.into_iter-rest.result c.into_iter-rest.ensures.into_iter_gives,
   le_refl c.args.self.now.capacity,
-  c.capacity-room.ensures.room,
-  subst (λ n. n < 2 ^ 64) c.capacity-room.ensures.capacity c.capacity-room.type_inv,
   (c.into_iter-rest.result, [], c.into_iter-rest.ensures.into_iter_gives, refl, sym (append-nil c.args.self.now.items)),
 )
-
-pub next_of-requires : goal.next_of-requires
-next_of-requires g c = c.items.invariant.0
 
 pub items-preserved : goal.items-preserved
 items-preserved g c =
     let inv = c.items.invariant in
-    let run = inv.4 in
+    let run = inv.2 in
     let x = c.in-Some.item in
-    let step = c.in-Some.ensures.gives in
-    let room = c.capacity-room-in-items in (
+    let step = c.in-Some.ensures.gives in (
       c.in-Some.ensures.goes,
       le_trans inv.1 c.push.ensures.capacity,
-      room.ensures.room,
-      subst (λ n. n < 2 ^ 64) room.ensures.capacity room.type_inv,
       (
         run.0,
         run.1 ++ x ∷ [],
@@ -46,24 +38,18 @@ items-preserved g c =
 
 pub returns-in-None-clause-items : goal.returns-in-None-clause-items
 returns-in-None-clause-items g c =
-    let run = c.items.invariant.4 in
+    let run = c.items.invariant.2 in
     (run.1, run.4, (run.0, run.2, (c.next_of.new.rest, (c.items.rest, run.3, c.in-None.ensures.gives))))
-
-pub returns-in-None-clause-capacity : goal.returns-in-None-clause-capacity
-returns-in-None-clause-capacity g c = c.items.invariant.1
 
 pub returns-in_err-push-in-Some-clause-items : goal.returns-in_err-push-in-Some-clause-items
 returns-in_err-push-in-Some-clause-items g c =
-    let run = c.items.invariant.4 in
+    let run = c.items.invariant.2 in
     let refused = c.in_err-push-in-Some.ensures.refused in
     let p = err_from_is_err_and c.from_residual.result c.from_residual.ensures.1 in (
       run.1,
       refused.1 ∙ run.4,
       rw (p.1, p.2, refused.0) (run.0, c.next_of.new.rest, run.2, (c.items.rest, run.3, c.in-Some.ensures.gives)),
     )
-
-pub returns-in_err-push-in-Some-clause-capacity : goal.returns-in_err-push-in-Some-clause-capacity
-returns-in_err-push-in-Some-clause-capacity g c = le_trans c.items.invariant.1 c.push.ensures.capacity
 
 pub returns-in_err-push-in-Some-clause-room : goal.returns-in_err-push-in-Some-clause-room
 returns-in_err-push-in-Some-clause-room g c =

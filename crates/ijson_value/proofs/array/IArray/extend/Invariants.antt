@@ -1,4 +1,4 @@
-use Rattle.std.proofs.Common.{◌≡◌, ◌++◌, ◌≤◌, List, length, ◌-◌, ◌^◌, ◌<◌}
+use Rattle.std.proofs.Common.{◌≡◌, ◌++◌, ◌≤◌, List, length, ◌-◌, ◌^◌}
 use Rattle.std.specs.Iterator.{Yields}
 use Rattle.ijson_value.specs.WellFormed.{WellFormed}
 use Rattle.ijson_value.proofs.array.IArray.extend.Given as goal
@@ -7,8 +7,6 @@ abbrev pub invariant-items : goal.invariant-items
 invariant-items g l =
     g.I.IntoIter.Iterator.can_next l.rest
     × (l.initial.self.capacity ≤ l.self.capacity)
-    × (length l.self.items ≤ l.self.capacity)
-    × (l.self.capacity < 2 ^ 64)
     × ((it : g.row.I-IntoIter.Denot) × (added : List WellFormed)
     × g.I.IntoIterator.into_iter_gives l.fn.items it
     × Yields g.I.IntoIter.Iterator.next_gives it added l.rest

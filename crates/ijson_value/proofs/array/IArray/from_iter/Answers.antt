@@ -3,9 +3,6 @@ use Rattle.std.proofs.lemmas.Result.{err_from_is_err_and}
 use Rattle.ijson_value.specs.Gives.{GivesAll}
 use Rattle.ijson_value.proofs.array.IArray.from_iter.Goals as goal
 
-pub extend-requires : goal.extend-requires
-extend-requires g c = c.requires
-
 pub returns-in_err-extend : goal.returns-in_err-extend
 returns-in_err-extend g c =
     let p = err_from_is_err_and c.from_residual.result c.from_residual.ensures.1 in

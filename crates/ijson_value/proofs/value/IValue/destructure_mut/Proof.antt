@@ -1,5 +1,5 @@
 -- A value lends its part, by a call for each kind. Assumes `Logic`.
-use Rattle.ijson_value.proofs.lends.Steps.{◌≡◌, ℕ, List, [], ◌∷◌, refl, sym, ap, ◌∙◌, lit<, MutBor, proved, full_share, id⊢, Lft, ftrue}
+use Rattle.ijson_value.proofs.lends.Steps.{◌≡◌, ℕ, List, [], ◌∷◌, refl, sym, ap, subst, ◌∙◌, lit<, MutBor, proved, full_share, id⊢, Lft, ftrue}
 use Rattle.ijson_value.proofs.lends.Steps.{flft, fres, named, Val, fact, tables, ‵, raw, ◌⊛◌, some, later, at_ret, ◌$◌, ◌∵◌, !, qed, done}
 use Rattle.ijson_value.proofs.lends.Steps.{move, keep, use1, use2, split, join, rewrite, fsplit, fsplit3, fjoin, pick, await, suffices}
 use Rattle.ijson_value.proofs.lends.Steps.{frame, enter, of_opd, lit, addr, fld, stop, no_more, and_then, first, exec, returns, alloc_all}
@@ -8,15 +8,17 @@ use Rattle.ijson_value.proofs.lends.Steps.{MutRef, mut_vals, mut_Tells, plain, m
 use Rattle.ijson_value.proofs.lends.Steps.{calls_at, lasts, triple_of, Stays, walk_of, says, stay_dropped, Goes-spent_ref, ends_at, framed}
 use Rattle.ijson_value.proofs.lends.Steps.{lft_end, Sq, peeks, shows}
 use denote.Steps.{facts}
+use denote.Enum.Bare.{tag_one}
 use denote.Enum.Declared.{tag_of}
+use denote.Laws.{Typed}
+use denote.RattleType.{RattleType}
 use types.ByLocal.{forget_but, holding}
 use types.Kit.{drop, post, prop}
 use types.Logic.{sem}
 use prog.Wp.{Wp}
 use base.Fml.{Fml}
 use base.Logic.{ent}
-use types.Match.{live}
-use types.Run.{switches}
+use types.Match.{live, by_variants}
 use mir.Val.{of_list}
 use denote.Ref.{NamedLft}
 use Rattle.ijson_number.specs.contracts.repr.INumber.{the_row as NumberRow}
@@ -35,28 +37,24 @@ use Rattle.ijson_value.specs.contracts.value.destructure.DestructuredMut.{the_ro
 use Rattle.ijson_value.specs.declared.value.ValueType.{ValueType}
 use Rattle.ijson_value.specs.declared.value.ValueType.TheVariants as kind
 use Rattle.ijson_value.specs.declared.value.destructure.DestructuredMut.TheVariants as parts
+use Rattle.ijson_value.proofs.value.ValueType.TheLaws.{the_row_laws as kind_laws}
 use Rattle.ijson_value.proofs.value.destructure.BoolMut.TheLaws.{the_row_laws as bool_laws}
-use Rattle.ijson_value.proofs.lends.Called.{apart, past, lent, back}
+use Rattle.ijson_value.proofs.lends.Called.{lent, back}
 use Rattle.ijson_value.proofs.lends.PartCalled.{part_called}
 use Rattle.ijson_value.proofs.value.destructure.DestructuredMut.TheLaws.{the_row_laws as parts_laws}
 use Rattle.ijson_value.proofs.lends.LentOn.{none_if}
 use Rattle.ijson_value.specs.declared.value.destructure.DestructuredMut.{DestructuredMut}
-use Rattle.ijson_value.proofs.lends.Kinds.{by_kind, is_null}
-use Rattle.ijson_value.proofs.lends.Variants.{and_tt, bare_tells, variant_made, alone_made}
+use Rattle.ijson_value.proofs.lends.Kinds.{is_null}
+use Rattle.ijson_value.proofs.lends.Variants.{bare_tells, variant_made, alone_made}
 use Rattle.ijson_value.specs.contracts.value.IValue.destructure_mut as f
 use Rattle.ijson_value.proofs.value.IValue.destructure_mut.Statement.{statement}
 use Rattle.ijson_value.proofs.value.IValue.destructure_mut.Code as code
 use Rattle.ijson_value.specs.contracts.value.IValue.kind_kept as g
 use Rattle.ijson_value.proofs.value.IValue.kind_kept.Met as g-thm
-use Rattle.ijson_value.specs.contracts.value.IValue.bool_part as bool-part
 use Rattle.ijson_value.proofs.value.IValue.bool_part.Met as bool-thm
-use Rattle.ijson_value.specs.contracts.value.IValue.number_part as number-part
 use Rattle.ijson_value.proofs.value.IValue.number_part.Met as number-thm
-use Rattle.ijson_value.specs.contracts.value.IValue.string_part as string-part
 use Rattle.ijson_value.proofs.value.IValue.string_part.Met as string-thm
-use Rattle.ijson_value.specs.contracts.value.IValue.array_part as array-part
 use Rattle.ijson_value.proofs.value.IValue.array_part.Met as array-thm
-use Rattle.ijson_value.specs.contracts.value.IValue.object_part as object-part
 use Rattle.ijson_value.proofs.value.IValue.object_part.Met as object-thm
 
 abbrev stayed : Stays f.ended.signature.params f.ended.kept
@@ -71,21 +69,19 @@ destructure_mut_spec 𝓤 𝓛 𝓜 𝓡 wired =
     let κ = κs.0 in let q = qs.0 in let r = a.0 in let γ = r.ghost_name in let vs = mut_vals r in
     let at : NamedLft = record { mir = named 0; lft = κ } in
     let y : W.Ghost = ((κs, qs, bounds, a, (vs, tt)), gh) in
-    let Ref = λ (κ' : List ℕ) (x : MutBor WellFormed). (MutRef (named 0) κ' V).own_val x vs in
-    qed 𝓛 (((‵ (flft κ q) ⊛ ‵ ftrue) ⊛ ‵ (Ref κ r) ⊛ ‵ ftrue) ∷ ‵ ftrue ∷ []) ∵
+    let Ref : RattleType → RattleType = λ R. MutRef (named 0) κ R in
+    qed 𝓛 (((‵ (flft κ q) ⊛ ‵ ftrue) ⊛ ‵ ((Ref V).own_val r vs) ⊛ ‵ ftrue) ∷ ‵ ftrue ∷ []) ∵
     split ! $ split ! $ move ! (2 ∷ []) $ split ! $ keep ! (0 ∷ 2 ∷ []) $
     enter ! _ _ _ _ _ $ alloc_all ! (λ l. pass_all ! refl ((tt, tt), tt) $
-    -- the enum of the parts is built and returned
-    let leaves : (own : Fml) (u : Val) (x : DestructuredMut) → ent 𝓤 (sem 𝓛 own) (sem 𝓛 ((PartsOf at).own_val x (u ∷ [])))
-    → mut_value x ≡ r.now → Sq 𝓛 (‵ own ∷ ‵ (LendsParts r x) ∷ ‵ (flft κ q) ∷ holding 𝓛 (env code.Mir.locals l) ((4, u) ∷ []))
+    -- the enum of the parts is returned
+    let leaves : (u : Val) (x : DestructuredMut) → Typed (PartsOf at).mir (u ∷ []) → mut_value x ≡ r.now
+    → Sq 𝓛 (‵ ((PartsOf at).own_val x (u ∷ [])) ∷ ‵ (LendsParts r x) ∷ ‵ (flft κ q) ∷ holding 𝓛 (env code.Mir.locals l) ((4, u) ∷ []))
     (prop (Wp 𝓤 𝓛.H 𝓣.C 𝓣.Λ (env code.Mir.locals l) code.Mir.t-4 (post 𝓤 𝓛.H (at_ret (env code.Mir.locals l) (W.post y))))) =
-    λ own u x made stands. use1 𝓛 (‵ ((PartsOf at).own_val x (u ∷ []))) made $
-    peeks ! (PartsOf at) _ (shows 𝓛 (PartsOf at)) x (u ∷ []) (λ seen.
-    exec ! 𝓣.C 𝓣.Λ (env code.Mir.locals l) code.Mir.t-4 (at_ret (env code.Mir.locals l) (W.post y)) $
-    sets ! (of_opd ! (get ! refl)) refl (((parts_laws at).lawful 𝓛).typed x (u ∷ []) seen).0 $
+    λ u x typed stands. exec ! 𝓣.C 𝓣.Λ (env code.Mir.locals l) code.Mir.t-4 (at_ret (env code.Mir.locals l) (W.post y)) $
+    sets ! (of_opd ! (get ! refl)) refl typed.0 $
     returns ! (look_at ! 0 refl) $ free_all ! refl $ keep ! (0 ∷ 2 ∷ 1 ∷ []) $
     suffices ! _ (ends_at 𝓛 f.ended stayed c y u x (tt, tt) (tt, tt)) $ nothing ! $ nothing ! $ fjoin ! $ join ! $
-    nothing ! $ move ! (2 ∷ 0 ∷ []) $ join ! $ join ! $ frame ! $ says ! stands $ done !) in
+    nothing ! $ move ! (2 ∷ 0 ∷ []) $ join ! $ join ! $ frame ! $ says ! stands $ done ! in
     -- [the value; its token]
     sets ! (addr ! (through ! refl (stop !))) refl (tt, tt) $
     lent 𝓛 ! tt V κ q r (λ α δ. let β : Lft = α ∷ [] in
@@ -107,93 +103,47 @@ destructure_mut_spec 𝓤 𝓛 𝓜 𝓡 wired =
     move ! (3 ∷ 6 ∷ 0 ∷ []) $ back 𝓛 ! tt V κ q r α δ r.now $
     -- [the value; its token; its borrow; nothing; nothing; the kind]
     move ! (2 ∷ 3 ∷ 4 ∷ 5 ∷ []) $ drop ! $ drop ! $ drop ! $ facts ! KindRow _ (shows 𝓛 KindRow) x (v ∷ []) (λ seen.
-    let tag : (k : ValueType) → x ≡ k → v ≡ live (tag_of Kinds k) (of_list []) = λ k is.
-    ap only (bare_tells Kinds tt x (v ∷ []) seen) ∙ ap (λ (k' : ValueType). live (tag_of Kinds k') (of_list [])) is in
-    by_kind x
-    (λ is. lands_as ! (tag kind.Null is) refl (tt, (record { fits = lit< tt }, tt)) $
-    first ! $ switches ! (get_tag ! (vrt ! refl (fld ! refl (stop !))) (whole !)) (
-      (λ _. sets_last ! (agg ! (and_then ! (lit ! tt) (no_more !))) refl (tt, (record { fits = lit< tt }, tt)) $
+    let at_kind : v ≡ live (tag_of Kinds x) (of_list []) = ap only (bare_tells Kinds tt x (v ∷ []) seen) in
+    let is : (k : ValueType) → tag_of Kinds x ≡ tag_of Kinds k → kind_of r.now.tree ≡ k = λ k e. sym told ∙ tag_one Kinds tt x k e in
+    lands_as ! at_kind refl (subst (λ (u : Val). Typed KindRow.mir (u ∷ [])) at_kind ((kind_laws.lawful 𝓛).typed x (v ∷ []) seen)).0 $
+    -- [the value; its token]
+    first ! $ by_variants ! 26 (whole !) (get_tag ! (vrt ! refl (fld ! refl (stop !))) (whole !)) tt (
+      (λ e. sets_last ! (agg ! (and_then ! (lit ! tt) (no_more !))) refl (tt, (record { fits = lit< tt }, tt)) $
           fsplit3 ! $ move ! (0 ∷ 2 ∷ []) $ drop ! $ drop ! $
           use1 𝓛 (‵ (fres γ (V.coded.code r.now))) (𝓛.names.obs-res γ (V.coded.code r.now)) $
-          use1 𝓛 (‵ (LendsParts r parts.Null)) (none_if 𝓛 V V (λ w. w) r.now γ) $
-          nothing ! $ forget_but ! (env code.Mir.locals l) (4 ∷ []) refl $
-          leaves ftrue (live 0 (of_list [])) parts.Null (variant_made 𝓛 0 [] tt tt) (is_null r.now (sym told ∙ is))),
-      (
-        apart 0 1 refl refl,
-        (
-          apart 0 2 refl refl,
-          (apart 0 3 refl refl, (apart 0 4 refl refl, (apart 0 5 refl refl, (λ n. absurd (n.0.0.0.0.0.1 refl))))),
-        ),
-      ),
-    ))
-    (λ is. lands_as ! (tag kind.Bool is) refl (tt, (record { fits = lit< tt }, tt)) $
-    first ! $ switches ! (get_tag ! (vrt ! refl (fld ! refl (stop !))) (whole !))
-    (past 1 0 refl refl (
-      (λ _. sets ! (addr ! (through ! refl (stop !))) refl (tt, tt) $
-          part_called 𝓛 ! κ q r (framed 𝓤 𝓛.H 𝓜 𝓣) kind.Bool (sym told ∙ is)
-          (BoolRow at) ((bool_laws at).lawful 𝓛).typed (λ part. LendsBoolPart r part.place) (λ part. boolean_value part.place.now)
-          (triple_of 𝓛 bool-part.signature (bool-part.spec 𝓛 𝓜.mem 𝓡.returns))
-          (bool-thm.met 𝓤 𝓛 𝓜 𝓡 (code.calls-ijson_value::value::IValue::bool_part 𝓡.env wired)) ((κs, qs, tt, (r, tt), (vs, tt)), tt)
-          (id⊢ 𝓤 _) (and_then ! (get ! refl) (no_more !)) (λ w. id⊢ 𝓤 _) (λ w part stands typed. lands_as ! refl refl typed.0 $
-          sets_last ! (agg ! (and_then ! (lit ! tt) (and_then ! (get ! refl) (no_more !)))) refl
-          (and_tt _ typed.0.0, (record { fits = lit< tt }, (typed.0.1, tt))) $ forget_but ! (env code.Mir.locals l) (4 ∷ []) refl $
-          leaves _ (live 1 (of_list (w ∷ []))) (parts.Bool part) (alone_made 𝓛 1 (BoolRow at) part w) stands)),
-      (apart 1 2 refl refl, (apart 1 3 refl refl, (apart 1 4 refl refl, (apart 1 5 refl refl, (λ n. absurd (n.0.0.0.0.1 refl)))))),
-    )))
-    (λ is. lands_as ! (tag kind.Number is) refl (tt, (record { fits = lit< tt }, tt)) $
-    first ! $ switches ! (get_tag ! (vrt ! refl (fld ! refl (stop !))) (whole !))
-    (past 2 0 refl refl (past 2 1 refl refl (
-      (λ _. sets ! (addr ! (through ! refl (stop !))) refl (tt, tt) $
-          part_called 𝓛 ! κ q r (framed 𝓤 𝓛.H 𝓜 𝓣) kind.Number (sym told ∙ is)
-          (MutRef (named 0) κ NumberRow) ((mut_ref_laws at NumberRow tt).lawful 𝓛).typed (LendsNumberPart r) (λ part. number_value part.now)
-          (triple_of 𝓛 number-part.signature (number-part.spec 𝓛 𝓜.mem 𝓡.returns))
-          (number-thm.met 𝓤 𝓛 𝓜 𝓡 (code.calls-ijson_value::value::IValue::number_part 𝓡.env wired)) ((κs, qs, tt, (r, tt), (vs, tt)), tt)
-          (id⊢ 𝓤 _) (and_then ! (get ! refl) (no_more !)) (λ w. id⊢ 𝓤 _) (λ w part stands typed. lands_as ! refl refl typed.0 $
-          sets_last ! (agg ! (and_then ! (lit ! tt) (and_then ! (get ! refl) (no_more !)))) refl
-          (and_tt _ typed.0.0, (record { fits = lit< tt }, (typed.0.1, tt))) $ forget_but ! (env code.Mir.locals l) (4 ∷ []) refl $
-          leaves _ (live 2 (of_list (w ∷ []))) (parts.Number part) (alone_made 𝓛 2 (MutRef (named 0) κ NumberRow) part w) stands)),
-      (apart 2 3 refl refl, (apart 2 4 refl refl, (apart 2 5 refl refl, (λ n. absurd (n.0.0.0.1 refl))))),
-    ))))
-    (λ is. lands_as ! (tag kind.String is) refl (tt, (record { fits = lit< tt }, tt)) $
-    first ! $ switches ! (get_tag ! (vrt ! refl (fld ! refl (stop !))) (whole !))
-    (past 3 0 refl refl (past 3 1 refl refl (past 3 2 refl refl (
-      (λ _. sets ! (addr ! (through ! refl (stop !))) refl (tt, tt) $
-          part_called 𝓛 ! κ q r (framed 𝓤 𝓛.H 𝓜 𝓣) kind.String (sym told ∙ is)
-          (MutRef (named 0) κ StringRow) ((mut_ref_laws at StringRow tt).lawful 𝓛).typed (LendsStringPart r) (λ part. string_value part.now)
-          (triple_of 𝓛 string-part.signature (string-part.spec 𝓛 𝓜.mem 𝓡.returns))
-          (string-thm.met 𝓤 𝓛 𝓜 𝓡 (code.calls-ijson_value::value::IValue::string_part 𝓡.env wired)) ((κs, qs, tt, (r, tt), (vs, tt)), tt)
-          (id⊢ 𝓤 _) (and_then ! (get ! refl) (no_more !)) (λ w. id⊢ 𝓤 _) (λ w part stands typed. lands_as ! refl refl typed.0 $
-          sets_last ! (agg ! (and_then ! (lit ! tt) (and_then ! (get ! refl) (no_more !)))) refl
-          (and_tt _ typed.0.0, (record { fits = lit< tt }, (typed.0.1, tt))) $ forget_but ! (env code.Mir.locals l) (4 ∷ []) refl $
-          leaves _ (live 3 (of_list (w ∷ []))) (parts.String part) (alone_made 𝓛 3 (MutRef (named 0) κ StringRow) part w) stands)),
-      (apart 3 4 refl refl, (apart 3 5 refl refl, (λ n. absurd (n.0.0.1 refl)))),
-    )))))
-    (λ is. lands_as ! (tag kind.Array is) refl (tt, (record { fits = lit< tt }, tt)) $
-    first ! $ switches ! (get_tag ! (vrt ! refl (fld ! refl (stop !))) (whole !))
-    (past 4 0 refl refl (past 4 1 refl refl (past 4 2 refl refl (past 4 3 refl refl (
-      (λ _. sets ! (addr ! (through ! refl (stop !))) refl (tt, tt) $
-          part_called 𝓛 ! κ q r (framed 𝓤 𝓛.H 𝓜 𝓣) kind.Array (sym told ∙ is)
-          (MutRef (named 0) κ ArrayRow) ((mut_ref_laws at ArrayRow tt).lawful 𝓛).typed (LendsArrayPart r)
-          (λ part. array_value part.now.items)
-          (triple_of 𝓛 array-part.signature (array-part.spec 𝓛 𝓜.mem 𝓡.returns))
-          (array-thm.met 𝓤 𝓛 𝓜 𝓡 (code.calls-ijson_value::value::IValue::array_part 𝓡.env wired)) ((κs, qs, tt, (r, tt), (vs, tt)), tt)
-          (id⊢ 𝓤 _) (and_then ! (get ! refl) (no_more !)) (λ w. id⊢ 𝓤 _) (λ w part stands typed. lands_as ! refl refl typed.0 $
-          sets_last ! (agg ! (and_then ! (lit ! tt) (and_then ! (get ! refl) (no_more !)))) refl
-          (and_tt _ typed.0.0, (record { fits = lit< tt }, (typed.0.1, tt))) $ forget_but ! (env code.Mir.locals l) (4 ∷ []) refl $
-          leaves _ (live 4 (of_list (w ∷ []))) (parts.Array part) (alone_made 𝓛 4 (MutRef (named 0) κ ArrayRow) part w) stands)),
-      (apart 4 5 refl refl, (λ n. absurd (n.0.1 refl))),
-    ))))))
-    (λ is. lands_as ! (tag kind.Object is) refl (tt, (record { fits = lit< tt }, tt)) $
-    first ! $ switches ! (get_tag ! (vrt ! refl (fld ! refl (stop !))) (whole !))
-    (past 5 0 refl refl (past 5 1 refl refl (past 5 2 refl refl (past 5 3 refl refl (past 5 4 refl refl (
-      (λ _. sets ! (addr ! (through ! refl (stop !))) refl (tt, tt) $
-          part_called 𝓛 ! κ q r (framed 𝓤 𝓛.H 𝓜 𝓣) kind.Object (sym told ∙ is)
-          (MutRef (named 0) κ ObjectRow) ((mut_ref_laws at ObjectRow tt).lawful 𝓛).typed (LendsObjectPart r) (λ part. object_value part.now)
-          (triple_of 𝓛 object-part.signature (object-part.spec 𝓛 𝓜.mem 𝓡.returns))
-          (object-thm.met 𝓤 𝓛 𝓜 𝓡 (code.calls-ijson_value::value::IValue::object_part 𝓡.env wired)) ((κs, qs, tt, (r, tt), (vs, tt)), tt)
-          (id⊢ 𝓤 _) (and_then ! (get ! refl) (no_more !)) (λ w. id⊢ 𝓤 _) (λ w part stands typed. lands_as ! refl refl typed.0 $
-          sets_last ! (agg ! (and_then ! (lit ! tt) (and_then ! (get ! refl) (no_more !)))) refl
-          (and_tt _ typed.0.0, (record { fits = lit< tt }, (typed.0.1, tt))) $ forget_but ! (env code.Mir.locals l) (4 ∷ []) refl $
-          leaves _ (live 5 (of_list (w ∷ []))) (parts.Object part) (alone_made 𝓛 5 (MutRef (named 0) κ ObjectRow) part w) stands)),
-      (λ n. absurd (n.1 refl)),
-    ))))))))))))))))
+          use1 𝓛 (‵ (LendsParts r parts.Null)) (none_if 𝓛 V V (λ w. w) r.now γ) $ nothing ! $
+          use1 𝓛 (‵ ((PartsOf at).own_val parts.Null (live 0 (of_list []) ∷ []))) (variant_made 𝓛 0 [] tt tt) $
+          forget_but ! (env code.Mir.locals l) (4 ∷ []) refl $
+          leaves (live 0 (of_list [])) parts.Null ((tt, (record { fits = lit< tt }, tt)), tt) (is_null r.now (is kind.Null e))),
+      ((λ e. sets ! (addr ! (through ! refl (stop !))) refl (tt, tt) $
+          part_called 𝓛 ! κ q r (framed 𝓤 𝓛.H 𝓜 𝓣) kind.Bool (is kind.Bool e) (BoolRow at) ((bool_laws at).lawful 𝓛).typed parts.Bool 1
+          (alone_made 𝓛 1 (BoolRow at)) (bool-thm.met 𝓤 𝓛 𝓜 𝓡 (code.calls-ijson_value::value::IValue::bool_part 𝓡.env wired))
+          ((κs, qs, tt, (r, tt), (vs, tt)), tt) (id⊢ 𝓤 _) (and_then ! (get ! refl) (no_more !)) (λ w. id⊢ 𝓤 _) (λ w part stands typed built.
+          lands_as ! refl refl typed.0 $ sets_last ! (agg ! (and_then ! (lit ! tt) (and_then ! (get ! refl) (no_more !)))) refl built.0 $
+          forget_but ! (env code.Mir.locals l) (4 ∷ []) refl $ leaves _ (parts.Bool part) built stands)),
+      ((λ e. sets ! (addr ! (through ! refl (stop !))) refl (tt, tt) $
+          part_called 𝓛 ! κ q r (framed 𝓤 𝓛.H 𝓜 𝓣) kind.Number (is kind.Number e) (Ref NumberRow) ((mut_ref_laws at NumberRow tt).lawful 𝓛).typed parts.Number 2
+          (alone_made 𝓛 2 (Ref NumberRow)) (number-thm.met 𝓤 𝓛 𝓜 𝓡 (code.calls-ijson_value::value::IValue::number_part 𝓡.env wired))
+          ((κs, qs, tt, (r, tt), (vs, tt)), tt) (id⊢ 𝓤 _) (and_then ! (get ! refl) (no_more !)) (λ w. id⊢ 𝓤 _) (λ w part stands typed built.
+          lands_as ! refl refl typed.0 $ sets_last ! (agg ! (and_then ! (lit ! tt) (and_then ! (get ! refl) (no_more !)))) refl built.0 $
+          forget_but ! (env code.Mir.locals l) (4 ∷ []) refl $ leaves _ (parts.Number part) built stands)),
+      ((λ e. sets ! (addr ! (through ! refl (stop !))) refl (tt, tt) $
+          part_called 𝓛 ! κ q r (framed 𝓤 𝓛.H 𝓜 𝓣) kind.String (is kind.String e) (Ref StringRow) ((mut_ref_laws at StringRow tt).lawful 𝓛).typed parts.String 3
+          (alone_made 𝓛 3 (Ref StringRow)) (string-thm.met 𝓤 𝓛 𝓜 𝓡 (code.calls-ijson_value::value::IValue::string_part 𝓡.env wired))
+          ((κs, qs, tt, (r, tt), (vs, tt)), tt) (id⊢ 𝓤 _) (and_then ! (get ! refl) (no_more !)) (λ w. id⊢ 𝓤 _) (λ w part stands typed built.
+          lands_as ! refl refl typed.0 $ sets_last ! (agg ! (and_then ! (lit ! tt) (and_then ! (get ! refl) (no_more !)))) refl built.0 $
+          forget_but ! (env code.Mir.locals l) (4 ∷ []) refl $ leaves _ (parts.String part) built stands)),
+      ((λ e. sets ! (addr ! (through ! refl (stop !))) refl (tt, tt) $
+          part_called 𝓛 ! κ q r (framed 𝓤 𝓛.H 𝓜 𝓣) kind.Array (is kind.Array e) (Ref ArrayRow) ((mut_ref_laws at ArrayRow tt).lawful 𝓛).typed parts.Array 4
+          (alone_made 𝓛 4 (Ref ArrayRow)) (array-thm.met 𝓤 𝓛 𝓜 𝓡 (code.calls-ijson_value::value::IValue::array_part 𝓡.env wired))
+          ((κs, qs, tt, (r, tt), (vs, tt)), tt) (id⊢ 𝓤 _) (and_then ! (get ! refl) (no_more !)) (λ w. id⊢ 𝓤 _) (λ w part stands typed built.
+          lands_as ! refl refl typed.0 $ sets_last ! (agg ! (and_then ! (lit ! tt) (and_then ! (get ! refl) (no_more !)))) refl built.0 $
+          forget_but ! (env code.Mir.locals l) (4 ∷ []) refl $ leaves _ (parts.Array part) built stands)),
+      ((λ e. sets ! (addr ! (through ! refl (stop !))) refl (tt, tt) $
+          part_called 𝓛 ! κ q r (framed 𝓤 𝓛.H 𝓜 𝓣) kind.Object (is kind.Object e) (Ref ObjectRow) ((mut_ref_laws at ObjectRow tt).lawful 𝓛).typed parts.Object 5
+          (alone_made 𝓛 5 (Ref ObjectRow)) (object-thm.met 𝓤 𝓛 𝓜 𝓡 (code.calls-ijson_value::value::IValue::object_part 𝓡.env wired))
+          ((κs, qs, tt, (r, tt), (vs, tt)), tt) (id⊢ 𝓤 _) (and_then ! (get ! refl) (no_more !)) (λ w. id⊢ 𝓤 _) (λ w part stands typed built.
+          lands_as ! refl refl typed.0 $ sets_last ! (agg ! (and_then ! (lit ! tt) (and_then ! (get ! refl) (no_more !)))) refl built.0 $
+          forget_but ! (env code.Mir.locals l) (4 ∷ []) refl $ leaves _ (parts.Object part) built stands)),
+      tt)))))
+    ))))))))))

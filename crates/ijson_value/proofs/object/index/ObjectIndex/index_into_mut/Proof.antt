@@ -19,6 +19,7 @@ use Rattle.ijson_value.specs.AtKey.{pair_at_key}
 use Rattle.ijson_value.specs.LendsPair.{LendsPairIf}
 use Rattle.ijson_value.specs.contracts.object.map.IObject.{the_row as M}
 use Rattle.ijson_value.specs.contracts.value.IValue.{the_row as V}
+use Rattle.ijson_value.proofs.lends.Called.{answered}
 use Rattle.ijson_value.proofs.lends.LentLaws.{Pair, pair_found_laws}
 use Rattle.ijson_value.specs.contracts.object.index.ObjectIndex.index_into_mut as f
 use Rattle.ijson_value.proofs.object.index.ObjectIndex.index_into_mut.Statement.{statement}
@@ -56,16 +57,11 @@ index_into_mut_spec 𝓤 𝓛 𝓜 𝓡 wired I LI CI gx dx gs ds gc dc mx ms mc
     calls_at ! (framed 𝓤 𝓛.H 𝓜 𝓣) G (g-thm.met 𝓤 𝓛 𝓜 𝓡 (code.calls-ijson_value::object::map::IObject::get_key_value_mut 𝓡.env wired) I LI CI
     gx dx gs ds gc dc mx ms mc) z
     (and_then ! (get ! refl) (and_then ! (get ! refl) (no_more !))) (λ v.
-    use1 𝓛 (later
-    (some (λ (x : Option (Bor S.Denot × MutBor V.Denot)).
-    ((‵ (flft κ q) ⊛ ‵ (flft κ' q') ⊛ ‵ ftrue) ⊛ ‵ ((OptionOf (Pair κ)).own_val x (v ∷ []))) ⊛
-    some (λ (ws : Unit {0} × (Unit {0} × Unit {0})). ‵ (lasts (g.ended I gx dx gs ds gc dc) κs (r, (k, tt)) ws)
-    ⊛ ‵ (LendsPairIf r (gs.key k) x) ⊛ raw (fact 𝓤 (option_map deref_pair_mut x ≡ pair_at_key (gs.key k) r.now.pairs)))))) (id⊢ 𝓤 _) $
-    await ! tt $ pick ! (λ x. split ! $ split ! $ move ! (2 ∷ []) $
-    pick ! (λ ws. split ! $ drop ! $ split ! $ move ! (1 ∷ []) $ heard ! _ (λ is.
-    -- [the formula of the object; the tokens; the result]
-    move ! (2 ∷ []) $ peeks ! (OptionOf (Pair κ)) _ (shows 𝓛 (OptionOf (Pair κ))) x (v ∷ []) (λ told.
+    answered 𝓛 ! tt (‵ (flft κ q) ⊛ ‵ (flft κ' q') ⊛ ‵ ftrue) (OptionOf (Pair κ)) v
+    (λ x (ws : Unit {0} × (Unit {0} × Unit {0})). lasts (g.ended I gx dx gs ds gc dc) κs (r, (k, tt)) ws) (LendsPairIf r (gs.key k))
+    (λ x. option_map deref_pair_mut x ≡ pair_at_key (gs.key k) r.now.pairs) (id⊢ 𝓤 _) (λ x is told.
+    -- [the result; the formula of the object; the tokens]
     lands_as ! refl refl (((pair_found_laws κ).lawful 𝓛).typed x (v ∷ []) told).0 $
     returns ! (look_at ! 0 refl) $ free_all ! refl $ keep ! (0 ∷ 2 ∷ 1 ∷ []) $
     suffices ! _ (ends_at 𝓛 En hs c y v x (tt, (tt, tt)) (tt, (tt, tt))) $
-    nothing ! $ nothing ! $ fjoin ! $ nothing ! $ fjoin ! $ join ! $ move ! (1 ∷ 0 ∷ []) $ join ! $ frame ! $ says ! is $ done !))))))))
+    nothing ! $ nothing ! $ fjoin ! $ nothing ! $ fjoin ! $ join ! $ move ! (1 ∷ 0 ∷ []) $ join ! $ frame ! $ says ! is $ done !)))))

@@ -26,9 +26,6 @@ returns-in_err-list-clause-pairs g c = IfOk-from_err c.from_residual.result _ c.
 pub returns-in_err-list-clause-capacity : goal.returns-in_err-list-clause-capacity
 returns-in_err-list-clause-capacity g c = IfOk-from_err c.from_residual.result _ c.from_residual.ensures.0
 
-pub next-requires : goal.next-requires
-next-requires g c = c.loop-pair.invariant.0
-
 pub loop-pair-preserved : goal.loop-pair-preserved
 loop-pair-preserved g c = (
   search rules,

@@ -25,7 +25,7 @@ use Rattle.ijson_value.specs.LendsPair.{LendsPairIf}
 use Rattle.ijson_value.specs.LendsValue.{LendsValue}
 use Rattle.ijson_value.specs.contracts.value.IValue.{the_row as V}
 use Rattle.ijson_value.proofs.lends.LentLaws.{Pair, pair_laws}
-use Rattle.ijson_value.proofs.lends.Called.{lent, back}
+use Rattle.ijson_value.proofs.lends.Called.{answered, lent, back}
 use Rattle.ijson_value.proofs.lends.LentOn.{none_if, some_if}
 use Rattle.ijson_value.proofs.lends.Variants.{and_tt, none_out, Some-out, by_option}
 use Rattle.ijson_value.specs.contracts.object.map.IObject.get_key_value_mut as f
@@ -129,13 +129,10 @@ get_key_value_mut_spec 𝓤 𝓛 𝓜 𝓡 wired I LI CI gx dx gs ds gc dc mx ms
           use2 𝓛 (raw (H.pre z')) (id⊢ 𝓤 _) $
           calls_at ! (framed 𝓤 𝓛.H 𝓜 𝓣) H (h-thm.met 𝓤 𝓛 𝓜 𝓡 (code.calls-ijson_value::object::map::IObject::pair_mut 𝓡.env wired)) z'
           (and_then ! (get ! refl) (and_then ! (get ! refl) (no_more !))) (λ w.
-          use1 𝓛 (later (some (λ (pair : Bor S.Denot × MutBor V.Denot). ((‵ (flft κ q) ⊛ ‵ ftrue) ⊛ ‵ ((Pair κ).own_val pair (w ∷ []))) ⊛
-          some (λ (ws' : Unit {0} × (Unit {0} × Unit {0})). ‵ (lasts h.ended (κ, tt) (r, (i, tt)) ws') ⊛ ‵ (LendsValue r i pair.1)
-          ⊛ raw (fact 𝓤 (slice_get r.now.pairs i ≡ Some (pair.0.now, pair.1.now))))))) (id⊢ 𝓤 _) $
-          await ! tt $ pick ! (λ pair. split ! $ split ! $ split ! $ move ! (3 ∷ []) $
-          pick ! (λ ws'. split ! $ drop ! $ split ! $ move ! (1 ∷ []) $ heard ! _ (λ stands.
-          -- [the formula of the map; its token; nothing; the pair; the borrow; nothing; the index's token; nothing]
-          move ! (3 ∷ []) $ peeks ! (Pair κ) _ (shows 𝓛 (Pair κ)) pair (w ∷ []) (λ told'. let typed =
+          answered 𝓛 ! tt (‵ (flft κ q) ⊛ ‵ ftrue) (Pair κ) w
+          (λ pair (ws' : Unit {0} × (Unit {0} × Unit {0})). lasts h.ended (κ, tt) (r, (i, tt)) ws') (λ pair. LendsValue r i pair.1)
+          (λ pair. slice_get r.now.pairs i ≡ Some (pair.0.now, pair.1.now)) (id⊢ 𝓤 _) (λ pair stands told'. let typed =
+          -- [the pair; the formula of the map; its token and nothing; the borrow; nothing; the index's token; nothing]
           (((pair_laws κ).lawful 𝓛).typed pair (w ∷ []) told').0 in
           lands_as ! refl refl typed $
           sets_last ! (agg ! (and_then ! (lit ! tt) (and_then ! (get ! refl) (no_more !)))) refl
@@ -147,10 +144,10 @@ get_key_value_mut_spec 𝓤 𝓛 𝓜 𝓡 wired I LI CI gx dx gs ds gc dc mx ms
           move ! (1 ∷ []) $ rewrite ! 0 (λ (F : V.Denot → M.Denot). ‵ (follows M V γ pair.1.ghost_name F))
           (ap (λ (x' : Option ℕ). with_found r.now x') is_found) refl $
           use1 𝓛 (‵ (LendsPairIf r (gs.key k) (Some pair))) (some_if 𝓛 M V (with_key r.now (gs.key k)) r.now γ pair.1.ghost_name) $
-          keep ! (1 ∷ 2 ∷ 6 ∷ 0 ∷ []) $
+          move ! (2 ∷ []) $ split ! $ keep ! (3 ∷ 0 ∷ 6 ∷ 2 ∷ []) $
           suffices ! _ (ends_at 𝓛 En hs c y (live 1 (of_list (w ∷ []))) (Some pair) (tt, (tt, tt)) (tt, (tt, tt))) $
           nothing ! $ nothing ! $ fjoin ! $ nothing ! $ fjoin ! $ join ! $ nothing ! $ move ! (3 ∷ 0 ∷ []) $ join ! $ move ! (2 ∷ 0 ∷ []) $
           join ! $ join ! $ frame ! $ says ! (sym stands ∙ ap (λ (x' : Option ℕ). option_and_then (slice_get r.now.pairs) x') is_found) $
-          done !))))),
+          done !)),
       ((λ e. absurd (suc-ne-zero 0 e)), (λ n. absurd (n.0.1 refl))),
     )))))))))))))))

@@ -85,6 +85,3 @@ returns-clause-pairs g c =
     let none : length now.pairs - i ≡ 0 = omega (arith, c.loop-index-test.false, c.len.ensures) in
     c.loop-index.invariant.3 now.pairs (subst (λ k. RetainsFrom (CalledAtPair g.F.FnMut) k c.loop-index.asks i now.pairs now.pairs)
     (sym none) refl)
-
-pub returns-clause-capacity : goal.returns-clause-capacity
-returns-clause-capacity g c = c.loop-index.invariant.1

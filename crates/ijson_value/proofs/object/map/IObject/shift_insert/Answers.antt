@@ -1,7 +1,6 @@
-use Rattle.std.proofs.Common.{◌≡◌, ℕ, length, sym, ap, subst, refl, ◌∙◌, Some, None, arith}
+use Rattle.std.proofs.Common.{◌≡◌, ℕ, sym, ap, subst, refl, ◌∙◌, Some, None}
 use Rattle.std.specs.Prelude.{IsSome}
 use Rattle.std.proofs.lemmas.Bool.{false≢true}
-use Rattle.std.proofs.lemmas.List.Edits.{length-remove}
 use Rattle.ijson_table.proofs.pairs.PairsByKey.{lookup-absent, lookup-found, position_within}
 use Rattle.ijson_table.proofs.shifting.ListShiftOut.{shifted_lacks}
 use Rattle.ijson_table.specs.Store.{Store, at, lookup, shift_out}
@@ -16,17 +15,6 @@ insert_new-requires-clause-missing c =
     ap (λ ps. at ps key) c.shift_out-same.ensures.pairs
     ∙ (ap (at (shift_out old.pairs i)) (sym (key_there old.pairs key i found))
     ∙ shifted_lacks old.pairs i old.distinct (position_within old.pairs key i found))
-
-pub insert_new-requires-clause-within : goal.insert_new-requires-clause-within
-insert_new-requires-clause-within c =
-    let old : Store WellFormed = c.args.self.now in let i : ℕ = c.in-Some.found in
-    omega (
-      arith,
-      c.capacity-room.ensures.room,
-      ap length c.shift_out-same.ensures.pairs,
-      length-remove old.pairs i c.in-Some.ensures.within,
-      c.shift_out-same.ensures.capacity,
-    )
 
 pub returns-in-Some-clause-old : goal.returns-in-Some-clause-old
 returns-in-Some-clause-old c =

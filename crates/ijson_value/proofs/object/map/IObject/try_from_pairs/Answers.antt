@@ -52,6 +52,3 @@ returns-clause-pairs c =
     let end = YieldsList-end (YieldsList-from_vec c.args.pairs.items gives.0 (gives.1 ∙ c.args.pairs.ok.0)) c.loop-key.yielded
     c.loop-key.key-iterator c.loop-key.yielded_by c.next.result c.next.new.self c.in-None.is c.next.ensures.steps in
     c.loop-key.invariant.2 ∙ ap (put_each []) (sym (map-same c.loop-key.yielded) ∙ end.0)
-
-pub returns-clause-capacity : goal.returns-clause-capacity
-returns-clause-capacity c = c.loop-key.invariant.3

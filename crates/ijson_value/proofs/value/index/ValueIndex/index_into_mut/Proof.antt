@@ -27,6 +27,7 @@ use Rattle.ijson_value.specs.contracts.value.IValue.{the_row as V}
 use Rattle.ijson_value.specs.contracts.value.Destructured.{the_row as N}
 use Rattle.ijson_value.specs.declared.value.Destructured.{Destructured}
 use Rattle.ijson_value.proofs.lends.LentLaws.{value_found_laws}
+use Rattle.ijson_value.proofs.lends.Called.{answered}
 use Rattle.ijson_value.proofs.lends.LentOn.{then_so}
 use Rattle.ijson_value.specs.contracts.value.index.ValueIndex.index_into_mut as f
 use Rattle.ijson_value.proofs.value.index.ValueIndex.index_into_mut.Statement.{statement}
@@ -75,15 +76,12 @@ index_into_mut_spec 𝓤 𝓛 𝓜 𝓡 wired I LI CI gx dx gs ds gc dc mx ms mc
     use2 𝓛 (raw (G.pre z)) (id⊢ 𝓤 _) $
     calls_at ! (framed 𝓤 𝓛.H 𝓜 𝓣) G (g-thm.met 𝓤 𝓛 𝓜 𝓡 (code.calls-ijson_value::value::index::IValueDerefMut::deref_mut 𝓡.env wired)) z
     (and_then ! (get ! refl) (no_more !)) (λ x.
-    use1 𝓛 (later (some (λ (u : MutBor Destructured). ((‵ (flft κ q) ⊛ ‵ ftrue) ⊛ ‵ ((MutRef (named 0) κ N).own_val u (x ∷ []))) ⊛
-    some (λ (ws : Unit {0} × Unit {0}). ‵ (lasts g.ended (κ, tt) (r, tt) ws) ⊛ ‵ (follows V N r.ghost_name u.ghost_name node_value)
-    ⊛ raw (fact 𝓤 (node_value u.now ≡ r.now)))))) (id⊢ 𝓤 _) $
-    await ! tt $ pick ! (λ u. split ! $ split ! $ split ! $ move ! (3 ∷ []) $
-    pick ! (λ ws. split ! $ drop ! $ split ! $ move ! (1 ∷ []) $ heard ! _ (λ same.
-    move ! (3 ∷ []) $ peeks ! (MutRef (named 0) κ N) _ (shows 𝓛 (MutRef (named 0) κ N)) u (x ∷ []) (λ told. let opened_at =
+    answered 𝓛 ! tt (‵ (flft κ q) ⊛ ‵ ftrue) (MutRef (named 0) κ N) x (λ u (ws : Unit {0} × Unit {0}). lasts g.ended (κ, tt) (r, tt) ws)
+    (λ u. follows V N r.ghost_name u.ghost_name node_value) (λ u. node_value u.now ≡ r.now) (id⊢ 𝓤 _) (λ u same told. let opened_at =
     mut_Tells (named 0) κ N u (x ∷ []) told in
     lands_as ! (ap only opened_at) refl (tt, tt) $
     rewrite ! 0 (λ (us : List Val). ‵ ((MutRef (named 0) κ N).own_val u us)) opened_at refl $
+    move ! (2 ∷ []) $ split ! $ move ! (2 ∷ 2 ∷ []) $
     -- [content; the formula of the value; its token; nothing; the index's token; the index]
     let H = triple_of 𝓛 (h.signature I) (h.spec I gx dx gs ds gc dc 𝓛 𝓜.mem 𝓡.returns) in
     let z' : H.Ghost = ((κs, qs, tt, (u, (k, tt)), (mut_vals u, (ks, tt))), tt) in
@@ -95,14 +93,10 @@ index_into_mut_spec 𝓤 𝓛 𝓜 𝓡 wired I LI CI gx dx gs ds gc dc mx ms mc
     calls_at ! (framed 𝓤 𝓛.H 𝓜 𝓣) H (h-thm.met 𝓤 𝓛 𝓜 𝓡 (code.calls-ijson_value::value::IValue::get_mut 𝓡.env wired) I LI CI gx dx gs ds gc
     dc mx ms mc) z'
     (and_then ! (get ! refl) (and_then ! (get ! refl) (no_more !))) (λ w.
-    use1 𝓛 (later
-    (some (λ (o : Option (MutBor V.Denot)). ((‵ (flft κ q) ⊛ ‵ (flft κ' q') ⊛ ‵ ftrue) ⊛ ‵ ((OptionOf Lent).own_val o (w ∷ []))) ⊛
-    some (λ (ws' : Unit {0} × (Unit {0} × Unit {0})). ‵ (lasts (h.ended I gx dx gs ds gc dc) κs (u, (k, tt)) ws') ⊛ ‵ (LendsStepIf u step o)
-    ⊛ raw (fact 𝓤 (option_map (λ found. found.now.tree) o ≡ tree_at (node_value u.now).tree step)))))) (id⊢ 𝓤 _) $
-    await ! tt $ pick ! (λ o. split ! $ split ! $ move ! (2 ∷ []) $
-    pick ! (λ ws'. split ! $ drop ! $ split ! $ move ! (1 ∷ []) $ heard ! _ (λ is.
-    -- [the formula of the content; the tokens; the result; the formula of the value; nothing]
-    move ! (2 ∷ []) $ peeks ! (OptionOf Lent) _ (shows 𝓛 (OptionOf Lent)) o (w ∷ []) (λ told'.
+    answered 𝓛 ! tt (‵ (flft κ q) ⊛ ‵ (flft κ' q') ⊛ ‵ ftrue) (OptionOf Lent) w
+    (λ o (ws : Unit {0} × (Unit {0} × Unit {0})). lasts (h.ended I gx dx gs ds gc dc) κs (u, (k, tt)) ws) (LendsStepIf u step)
+    (λ o. option_map (λ found. found.now.tree) o ≡ tree_at (node_value u.now).tree step) (id⊢ 𝓤 _) (λ o is told'.
+    -- [the result; the formula of the content; the tokens; the formula of the value; nothing]
     lands_as ! refl refl (((value_found_laws κ).lawful 𝓛).typed o (w ∷ []) told').0 $
     move ! (3 ∷ 1 ∷ []) $ use2 𝓛 (‵ (LendsInsideIf r step o))
     (then_so 𝓛 V N V node_value (with_step u.now step) u.now (λ w' n. OnSome o (n.tree ≡ tree_with r.now.tree step w'.tree))
@@ -110,4 +104,4 @@ index_into_mut_spec 𝓤 𝓛 𝓜 𝓡 wired I LI CI gx dx gs ds gc dc mx ms mc
     returns ! (look_at ! 0 refl) $ free_all ! refl $ keep ! (1 ∷ 2 ∷ 0 ∷ []) $
     suffices ! _ (ends_at 𝓛 En hs c y w o (tt, (tt, tt)) (tt, (tt, tt))) $
     nothing ! $ nothing ! $ fjoin ! $ nothing ! $ fjoin ! $ join ! $ move ! (1 ∷ 0 ∷ []) $ join ! $ frame ! $
-    says ! (is ∙ ap (λ (v : WellFormed). tree_at v.tree step) same) $ done !))))))))))))))
+    says ! (is ∙ ap (λ (v : WellFormed). tree_at v.tree step) same) $ done !))))))))
