@@ -72,7 +72,11 @@ pub found_once : (o : Option (Option Tree)) (t : Tree) → Some t ≡ option_and
 found_once None t e = not_both t (sym e)
 found_once (Some found) t e = ap (λ x. Some x) (sym e)
 
-pub none_once : (t : Tree) (tokens : Option (List (List ℕ))) → None ≡ option_and_then (λ found. found) (option_map (followed t) tokens)
-    → is_some tokens ≡ true → option_map (followed t) tokens ≡ Some None
-none_once t None e is = absurd (cc)
-none_once t (Some tokens) e is = ap (λ x. Some x) (sym e)
+pub named_found : (t : Tree) (tokens : Option (List (List ℕ))) (seen : Option Tree) → is_some tokens ≡ true
+    → seen ≡ option_and_then (λ found. found) (option_map (followed t) tokens) → Some seen ≡ option_map (followed t) tokens
+named_found t None seen is e = absurd (cc)
+named_found t (Some tokens) seen is e = ap (λ x. Some x) e
+
+pub not_named_none : (t : Tree) (tokens : Option (List (List ℕ))) → is_some tokens ≡ false → option_map (followed t) tokens ≡ None
+not_named_none t None is = refl
+not_named_none t (Some tokens) is = absurd (cc)

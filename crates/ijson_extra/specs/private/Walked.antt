@@ -1,5 +1,5 @@
 -- The value that written tokens lead to: a token that means nothing leads to nothing.
-use Rattle.std.specs.Prelude.{◌≡◌, ℕ, List, [], Option, Some, None, IsSome, OnSome, option_map, option_and_then, get_or, Result, Ok, Err}
+use Rattle.std.specs.Prelude.{◌≡◌, ℕ, List, [], Option, Some, None, OnSome, option_map, option_and_then, get_or}
 use Rattle.std.specs.Borrow.{LendsSo, MutBor, Fml}
 use Rattle.ijson_table.specs.Store.{Store}
 use Rattle.ijson_value.specs.NodeValue.{node_value}
@@ -13,7 +13,6 @@ use Rattle.ijson_value.specs.contracts.value.Destructured as node
 use Rattle.ijson_value.specs.contracts.value.IValue as value
 use Rattle.ijson_value.specs.declared.value.Destructured.{Destructured}
 use Rattle.ijson_extra.specs.Pointer.{meant, written_tokens, child_at, child_with, resolved, resolved_with}
-use Rattle.ijson_extra.specs.declared.pointer.PointerError.{PointerError}
 
 -- the value that a token leads to, and the tree with another one there
 abbrev pub written_at : Tree → List ℕ → Option Tree
@@ -61,9 +60,3 @@ abbrev pub LendsNamedInside : MutBor Destructured → List ℕ → Option (MutBo
 LendsNamedInside s pointer r =
     LendsSo node.the_row value.the_row s r (λ n w. OnSome r (node_tree n ≡ resolved_with (node_tree s.now) pointer w.tree))
     (λ n. node_tree n ≡ node_tree s.now)
-
--- the same result, with an error in place of `None` if the pointer has no tokens
-abbrev pub IsOutcome : Option (MutBor WellFormed) → Option (List (List ℕ)) → Result (Option (MutBor WellFormed)) PointerError → Type 0
-IsOutcome o tokens (Ok (Some v)) = o ≡ Some v
-IsOutcome o tokens (Ok None) = (o ≡ None) × IsSome tokens
-IsOutcome o tokens (Err why) = (o ≡ None) × (tokens ≡ None)

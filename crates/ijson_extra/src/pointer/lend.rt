@@ -7,7 +7,7 @@ ghost use Rattle.ijson_value.specs.Values.{array_tree, object_tree};
 ghost use Rattle.ijson_extra.specs.LendsNamedValue.{LendsNamedValue};
 ghost use Rattle.ijson_extra.specs.LendsResolved.{LendsResolved, unresolved};
 ghost use Rattle.ijson_extra.specs.Pointer.{all_meant, tokens_of, written_tokens, resolved};
-ghost use Rattle.ijson_extra.specs.private.Walked.{IsOutcome, LendsNamedInside, LendsNamedItem, LendsNamedMember, LendsNamed};
+ghost use Rattle.ijson_extra.specs.private.Walked.{LendsNamedInside, LendsNamedItem, LendsNamedMember, LendsNamed};
 ghost use Rattle.ijson_extra.specs.private.Walked.{tree_lent, node_tree, first_of, found_at, written_at};
 
 use super::{Pointer, PointerError, find_member, is_token, position_below};
@@ -44,7 +44,7 @@ pub enum Unresolved {
 ///
 /// # Cost
 ///
-/// That of `resolve`, plus two more passes over the pointer, and a third if nothing is found. It does not allocate. The stack grows with each
+/// That of `resolve`, plus one more pass over the pointer. It does not allocate. The stack grows with each
 /// token that leads to a value.
 pub fn resolve_mut<'a>(
     value: &'a mut IValue,
@@ -55,7 +55,10 @@ pub fn resolve_mut<'a>(
         Some (option_map (λ v. v.now.tree) found) ≡ resolved value.old.tree pointer.now) }
     ensures refused { IfErr result (λ _. resolved value.old.tree pointer.now ≡ None) }
 {
-    outcome(value.pointer_mut(pointer), pointer)
+    if is_pointer(pointer) {
+        return Ok(value.pointer_mut(pointer));
+    }
+    Err(PointerError::Syntax)
 }
 
 /// Like `resolve_mut`, but returns the content of the value, and an error if there is none.
@@ -85,20 +88,6 @@ pub fn resolve_opened_mut<'a>(
         Some(found) => Ok(&mut **found),
         None if is_pointer(pointer) => Err(Unresolved::Nothing),
         None => Err(Unresolved::NoPointer(PointerError::Syntax)),
-    }
-}
-
-/// Returns an error in place of `None` if the text is not a pointer.
-fn outcome<'a>(
-    found: Option<&'a mut IValue>,
-    pointer: &str,
-) -> Result<Option<&'a mut IValue>, PointerError>
-    ensures { IsOutcome found.entry (tokens_of pointer.now) result }
-{
-    match found {
-        Some(found) => Ok(Some(found)),
-        None if is_pointer(pointer) => Ok(None),
-        None => Err(PointerError::Syntax),
     }
 }
 
