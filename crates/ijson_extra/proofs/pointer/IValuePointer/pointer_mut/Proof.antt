@@ -1,8 +1,8 @@
 -- A value lends itself, or the value inside it that a pointer refers to. Assumes `Logic`.
 use Rattle.ijson_value.proofs.lends.Steps.{◌≡◌, ◌∙◌, ℕ, List, [], ◌∷◌, refl, sym, ap, lit<, MutBor, proved, id⊢, emp, ftrue, flft, named}
 use Rattle.ijson_value.proofs.lends.Steps.{Val, vptr, fact, fact_i, tables, ‵, raw, ◌⊛◌, at_ret, ◌$◌, ◌∵◌, !, qed, done, move, keep}
-use Rattle.ijson_value.proofs.lends.Steps.{use0, use1, use2, split, join, fsplit3, fjoin, feq_l, suffices, frame, enter, lit, addr, says}
-use Rattle.ijson_value.proofs.lends.Steps.{stop, no_more, and_then, first, branches, skips, exec, returns, returns_within, alloc_all, fres}
+use Rattle.ijson_value.proofs.lends.Steps.{use0, use1, use2, split, join, fjoin, feq_l, suffices, frame, enter, lit, addr, says}
+use Rattle.ijson_value.proofs.lends.Steps.{stop, no_more, and_then, first, branches, skips, exec, returns, returns_within, alloc_all}
 use Rattle.ijson_value.proofs.lends.Steps.{pass_all, free_all, look_at, get, through, sets, lands_as, agg, env, bool, yes, no}
 use Rattle.ijson_value.proofs.lends.Steps.{RattleType, MutRef, Bor, mut_vals, mut_Tells, plain, mut_ref_to, nothing, heard, only, live}
 use Rattle.ijson_value.proofs.lends.Steps.{lasts, triple_of, Stays, walk_of, stay_dropped, Goes-dropped, Goes-spent_ref, ends_at, framed, follows}
@@ -17,7 +17,7 @@ use Rattle.std.proofs.option.Made.{Some-of}
 use Rattle.ijson_value.specs.NodeValue.{node_value}
 use Rattle.ijson_value.specs.WellFormed.{WellFormed}
 use Rattle.ijson_value.specs.contracts.value.IValue.{the_row as V}
-use Rattle.std.specs.Prelude.{Option, Some, Bool, true, false, ◌↔◌, IsTrue, OnSome}
+use Rattle.std.specs.Prelude.{Option, Some, Bool, ◌↔◌, IsTrue, OnSome}
 use Rattle.ijson_value.specs.contracts.value.Destructured.{the_row as N}
 use Rattle.ijson_value.specs.declared.value.Destructured.{Destructured}
 use Rattle.ijson_value.proofs.lends.LentOn.{then_such, itself_so}

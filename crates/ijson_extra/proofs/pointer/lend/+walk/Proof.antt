@@ -1,11 +1,11 @@
 -- A recursive walk lends the value that its tokens lead to. Assumes `Logic`.
-use Rattle.ijson_value.proofs.lends.Steps.{◌≡◌, ◌∙◌, subst, fact_i, says, fpick, ℕ, List, [], ◌∷◌, refl, sym, ap, lit<, w64, MutBor, id⊢}
-use Rattle.ijson_value.proofs.lends.Steps.{emp, ftrue, flft, fres, named, Val, vptr, fact, tables, ‵, raw, ◌⊛◌, some, later, at_ret, ◌$◌}
-use Rattle.ijson_value.proofs.lends.Steps.{◌∵◌, !, qed, done, move, keep, drop, use0, use1, use2, use3, split, join, rewrite, fjoin, pick}
-use Rattle.ijson_value.proofs.lends.Steps.{await, suffices, frame, enter, of_opd, lit, bin, addr, fld, stop, no_more, and_then, first}
-use Rattle.ijson_value.proofs.lends.Steps.{branches, skips, exec, returns, returns_within, alloc_all, pass_all, free_all, look_at, get}
-use Rattle.ijson_value.proofs.lends.Steps.{get_in, get_tag, through, sets, sets_last, lands_as, agg, env, usize, yes, no, shows, uint_vals}
-use Rattle.ijson_value.proofs.lends.Steps.{uint_Tells, RattleType, MutRef, Bor, mut_vals, mut_Tells, plain, mut_ref_to, nothing, heard}
+use Rattle.ijson_value.proofs.lends.Steps.{◌≡◌, ◌∙◌, subst, says, fpick, ℕ, List, [], ◌∷◌, refl, sym, ap, lit<, MutBor, id⊢}
+use Rattle.ijson_value.proofs.lends.Steps.{ftrue, flft, fres, named, Val, vptr, fact, tables, ‵, raw, ◌⊛◌, some, at_ret, ◌$◌}
+use Rattle.ijson_value.proofs.lends.Steps.{◌∵◌, !, qed, done, move, keep, use0, use1, use2, use3, split, join, rewrite, fjoin}
+use Rattle.ijson_value.proofs.lends.Steps.{suffices, frame, enter, of_opd, lit, addr, fld, stop, no_more, and_then, first}
+use Rattle.ijson_value.proofs.lends.Steps.{exec, returns, returns_within, alloc_all, pass_all, free_all, look_at, get}
+use Rattle.ijson_value.proofs.lends.Steps.{get_in, get_tag, through, sets, sets_last, lands_as, agg, env, yes, no, shows}
+use Rattle.ijson_value.proofs.lends.Steps.{RattleType, MutRef, Bor, mut_vals, mut_Tells, plain, mut_ref_to, nothing, heard}
 use Rattle.ijson_value.proofs.lends.Steps.{peeks, only, whole, vrt, live, of_field, lasts, triple_of, Stays, walk_of, stay_dropped}
 use Rattle.ijson_value.proofs.lends.Steps.{Goes-dropped, Goes-spent_ref, ends_at, framed, follows}
 use Rattle.ijson_extra.proofs.lends.Recursion.{recursive, step_on}

@@ -1,19 +1,16 @@
 -- A value lends the value inside it that a pointer refers to. Assumes `Logic`.
-use Rattle.ijson_value.proofs.lends.Steps.{◌≡◌, ◌∙◌, ℕ, List, [], ◌∷◌, refl, sym, ap, lit<, MutBor, proved, id⊢, emp, ftrue, flft, named}
-use Rattle.ijson_value.proofs.lends.Steps.{Val, vptr, fact, fact_i, tables, ‵, raw, ◌⊛◌, at_ret, ◌$◌, ◌∵◌, !, qed, done, move, keep}
-use Rattle.ijson_value.proofs.lends.Steps.{use0, use1, use2, split, join, fsplit3, fjoin, feq_l, suffices, frame, enter, lit, addr, says}
+use Rattle.ijson_value.proofs.lends.Steps.{◌≡◌, ◌∙◌, ℕ, List, [], ◌∷◌, refl, sym, ap, lit<, MutBor, proved, id⊢, ftrue, flft, named}
+use Rattle.ijson_value.proofs.lends.Steps.{Val, fact, tables, ‵, raw, ◌⊛◌, at_ret, ◌$◌, ◌∵◌, !, qed, done, move, keep}
+use Rattle.ijson_value.proofs.lends.Steps.{use0, use1, split, join, fsplit3, fjoin, feq_l, suffices, frame, enter, lit, addr}
 use Rattle.ijson_value.proofs.lends.Steps.{stop, no_more, and_then, first, branches, skips, exec, returns, returns_within, alloc_all, fres}
 use Rattle.ijson_value.proofs.lends.Steps.{pass_all, free_all, look_at, get, through, sets, lands_as, agg, env, bool, yes, no}
 use Rattle.ijson_value.proofs.lends.Steps.{RattleType, MutRef, Bor, mut_vals, mut_Tells, plain, mut_ref_to, nothing, heard, only, live}
-use Rattle.ijson_value.proofs.lends.Steps.{lasts, triple_of, Stays, walk_of, stay_dropped, Goes-dropped, Goes-spent_ref, ends_at, framed, follows}
+use Rattle.ijson_value.proofs.lends.Steps.{lasts, triple_of, Stays, walk_of, stay_dropped, Goes-dropped, Goes-spent_ref, ends_at, framed}
 use mir.Val.{of_list}
 use denote.Text.{Str, StrRefOf, str-laws, str-copy}
 use denote.Slice.{shr_slice_vals}
 use denote.Ref.{NamedLft}
-use Rattle.std.specs.Option.{ghost_name_of}
 use Rattle.std.specs.contracts.option.Option.{the_row as OptionOf}
-use Rattle.std.proofs.option.Made.{Some-of}
-use Rattle.ijson_value.specs.NodeValue.{node_value}
 use Rattle.ijson_value.specs.WellFormed.{WellFormed}
 use Rattle.ijson_value.specs.contracts.value.IValue.{the_row as V}
 use Rattle.std.specs.Prelude.{Option, Ok, Err, Bool, is_some}
