@@ -219,14 +219,10 @@ fn find_member<'a>(object: &'a IObject, token: &str) -> Option<(usize, &'a IValu
     ensures value { option_map (λ found. found.1.now) result
         ≡ option_and_then (λ m. lookup m object.now.pairs) (meant token.now) }
 {
-    // The number of keys is a `usize`, so the index is one too.
-    let _count = object.len();
-    let mut position: usize = 0;
-    for (key, value) in object.iter() {
+    for (position, (key, value)) in object.iter().enumerate() {
         if means(token, key.as_str()) {
             return Some((position, value));
         }
-        position += 1;
     }
     None
 }
