@@ -96,7 +96,7 @@ some_longer : (b : ℕ) (o : Option (List ℕ)) → option_map (λ token. b ∷ 
 some_longer b None e = absurd (cc)
 some_longer b (Some t) e = absurd (cc)
 
-pub by_tests : (P : Option (List ℕ) → Type 0) (r : Bool) (x y : Option (List ℕ)) → P x → P y → P (elim r [ true ↦ x | false ↦ y ])
+pub by_tests : {X : Type 0} (P : X → Type 0) (r : Bool) (x y : X) → P x → P y → P (elim r [ true ↦ x | false ↦ y ])
 by_tests P true x y p q = p
 by_tests P false x y p q = q
 
@@ -109,7 +109,7 @@ escape_longer (b ∷ text) e =
 meant_longer : (b : ℕ) (text : List ℕ) → meant (b ∷ text) ≡ Some [] → ⊥
 meant_longer b text e = by_tests (λ o. o ≡ Some [] → ⊥) (eqb b 126) _ _ (escape_longer text) (some_longer b (meant text)) e
 
-none_zero : (n : ℕ) → false ≡ (suc n == 0)
+pub none_zero : (n : ℕ) → false ≡ (suc n == 0)
 none_zero n = grind (arith, nat_tests)
 
 -- if no more byte can be split off

@@ -1,6 +1,6 @@
 -- A value after a mutable borrow at a pointer ends, as a value: the last value written is at the pointer, and nothing else has changed.
 -- This project's own.
-use Rattle.std.specs.Prelude.{◌≡◌, ℕ, List, Option, Some, None, Result, Ok, Err, OnSome, ⊤}
+use Rattle.std.specs.Prelude.{◌≡◌, ℕ, List, Option, Result, Ok, Err, OnSome, ⊤}
 use Rattle.std.specs.Borrow.{follows_so, GName, LendsSo, MutBor, Fml, RattleType}
 use Rattle.std.specs.Option.{ghost_name_of}
 use mathlib.Core.Option as maybe
@@ -17,8 +17,7 @@ lent_name (Err why) = maybe.none
 
 -- P, if a value is lent
 abbrev pub IfLent : Result (Option (MutBor WellFormed)) PointerError → Type 0 → Type 0
-IfLent (Ok (Some v)) P = P
-IfLent (Ok None) P = ⊤
+IfLent (Ok found) P = OnSome found P
 IfLent (Err why) P = ⊤
 
 -- the value at a pointer; if there is none, the outer value is unchanged

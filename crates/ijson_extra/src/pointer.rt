@@ -6,13 +6,13 @@ ghost use Rattle.std.specs.Option.{option_copied};
 ghost use Rattle.ijson_table.specs.Store.{at, lookup};
 ghost use Rattle.ijson_value.specs.Tree.{Tree};
 ghost use Rattle.ijson_value.specs.WellFormed.{tree_of};
-ghost use Rattle.ijson_extra.specs.private.Walked.{IsFlat};
 ghost use Rattle.ijson_extra.specs.Pointer.{meant, position_named, names_position, child_at, resolved};
 
 mod lend;
 
 use ijson_value::object::IObject;
 use ijson_value::value::IValue;
+use lend::{inside, names_itself, opened};
 pub use lend::{Unresolved, resolve_mut, resolve_opened_mut};
 use thiserror::Error;
 
@@ -115,17 +115,10 @@ impl Pointer for IValue {
     }
 
     fn pointer_mut(&mut self, pointer: &str) -> Option<&mut IValue> {
-        flat(resolve_mut(self, pointer))
-    }
-}
-
-/// Returns `None` in place of an error.
-fn flat(found: Result<Option<&mut IValue>, PointerError>) -> Option<&mut IValue>
-    ensures { IsFlat found.entry result }
-{
-    match found {
-        Ok(found) => found,
-        Err(_) => None,
+        if names_itself(pointer) {
+            return Some(self);
+        }
+        inside(opened(self), pointer)
     }
 }
 
@@ -226,14 +219,10 @@ fn find_member<'a>(object: &'a IObject, token: &str) -> Option<(usize, &'a IValu
     ensures value { option_map (λ found. found.1.now) result
         ≡ option_and_then (λ m. lookup m object.now.pairs) (meant token.now) }
 {
-    // The number of keys is a `usize`, so the index is one too.
-    let _count = object.len();
-    let mut position: usize = 0;
-    for (key, value) in object.iter() {
+    for (position, (key, value)) in object.iter().enumerate() {
         if means(token, key.as_str()) {
             return Some((position, value));
         }
-        position += 1;
     }
     None
 }

@@ -7,6 +7,5 @@ pub mod SpelledTrees
 pub mod PrintedIsAccepted
 pub mod SettlesToItself
 pub mod TotalReads
-pub mod WorkedExamples
 pub mod StringBodies
 pub mod AcceptedDepth

@@ -4,14 +4,17 @@ use seplogic.Ra.Ura.{Ura}
 use base.Fml.{Fml, Lft, Share, ftrue, flft}
 use base.Logic.{ent, sep, emp}
 use denote.Laws.{Typed, shows}
-use mathlib.Core.Path.{refl}
+use mathlib.Core.Path.{◌≡◌, refl}
+use mathlib.Core.Bool.{Bool, true, false, not}
+use lib.Dec.{T}
 use denote.Param.Laws.{Laws, of_field, row_shared}
-use denote.Param.Shared.{mut_ref_shared}
+use denote.Builtin.{bool}
+use denote.Param.Shared.{mut_ref_shared, copy_shared}
 use denote.Ref.{MutRef, NamedLft}
 use denote.RattleType.{RattleType}
 use denote.Steps.{nothing, peeks}
-use denote.Struct.Field.{mut_ref_field}
-use denote.Struct.Laws.{mut_ref_laws}
+use denote.Struct.Field.{mut_ref_field, bool-field}
+use denote.Struct.Laws.{mut_ref_laws, bool-laws, bool-copy}
 use denote.Triple.Call.{calls_at}
 use denote.Triple.Statement.{Contract, Triple}
 use mir.Syntax.{named, Body, Callee, Opd as Operand, Place, seq, call}
@@ -28,6 +31,18 @@ use Rattle.ijson_value.proofs.value.Destructured.TheLaws.{the_row_laws as node_l
 abbrev pub opened_laws : (κ : Lft) → Laws (MutRef (named 0) κ N)
 opened_laws κ = let a : NamedLft = record { mir = named 0; lft = κ } in
     of_field (mut_ref_field a N tt) (mut_ref_laws a N tt) refl (mut_ref_shared a N tt (row_shared N node_laws))
+
+-- a Boolean, and its tests
+abbrev pub bool_laws : Laws bool
+bool_laws = of_field bool-field bool-laws refl (copy_shared bool-field bool-copy)
+
+pub truth : (t : Bool) → T t → t ≡ true
+truth true k = refl
+truth false k = absurd k
+
+pub falsehood : (t : Bool) → T (not t) → t ≡ false
+falsehood true k = absurd k
+falsehood false k = refl
 
 -- for a call that requires nothing
 pub no_need : {M : Type 1} {𝓤 : Ura M} (𝓛 : Logic 𝓤) → ent 𝓤 (emp 𝓤) (mean 𝓛 (‵ ftrue))

@@ -1,8 +1,7 @@
--- A recursive function satisfies its contract if a measure of its arguments decreases in each recursive call. Its count, and what a lender
+-- A recursive function satisfies its contract if a measure of its arguments decreases in each recursive call. What a lender
 -- follows after a recursive call. Assumes `Logic`.
-use Rattle.ijson_value.proofs.lends.Steps.{◌≡◌, List, [], ◌∷◌, ap, w64, emp, Val, ◌$◌, ◌∵◌, !, qed, done, fjoin, usize, uint_vals}
+use Rattle.ijson_value.proofs.lends.Steps.{[], ◌∷◌, ◌$◌, ◌∵◌, !, qed, done}
 use Prim.Native.Nat.{ℕ, ◌<◌}
-use mathlib.Core.Bool.{not}
 use mathlib.Core.Option.{Option, some}
 use mathlib.Core.Path.{refl, subst}
 use lib.NonEmpty.{one}
@@ -17,8 +16,7 @@ use prog.Model.{Model}
 use prog.Wp.{WpFn, Closed}
 use sound.WpLaws.{WpFn-mono}
 use types.Logic.{Logic, sem}
-use types.Kit.{‵, use2, feq_i, flt_i, fpick}
-use lib.Dec.{eqb, T, eqb-suc-zero}
+use types.Kit.{‵, use2, fpick}
 use denote.Laws.{Spells, Tellss, Ises, Are, valss}
 use denote.RattleType.{RattleType, flat}
 use denote.Follow.{follows, follows_so, follows_by, such_by, follows_then}
@@ -29,8 +27,7 @@ use denote.Triple.Entry.{on_entry}
 use denote.Triple.Spec.{Meets, triple_of}
 use denote.Triple.Statement.{Contract}
 use denote.Triple.Walked.{Stays, AllGo, walk_of, walked_at, walk_meets_at}
-use Rattle.std.proofs.Common.{zero, suc, ◌-◌, ◌^◌, drop as list_drop, arith}
-use Rattle.std.specs.Prelude.{length}
+use Rattle.std.proofs.Common.{◌-◌}
 use Rattle.ijson_value.proofs.lends.LentOn.{then_such}
 
 module _ {M : Type 1} {𝓤 : Ura M} (𝓛 : Logic 𝓤) (T : Ended) (hs : Stays T.signature.params T.kept) (c : Clauses 𝓤 T) where
@@ -73,34 +70,6 @@ module _ {M : Type 1} {𝓤 : Ura M} (𝓛 : Logic 𝓤) (T : Ended) (hs : Stays
         (walked_at 𝓛 T hs c (WpFn 𝓤 H 𝓣.C 𝓣.Λ e) y (sp y.0.0) (tells y.0.0)
         (walk y (λ y' lt. below (μ y') (subst (λ (u : ℕ). μ y' < u) is lt) y' refl))))
         (closed (Known.args y) (Known.post y)))
-
--- the meaning of the count's test
-pub is_zero : (m : ℕ) → T (eqb m 0) → m ≡ 0
-is_zero zero t = refl
-is_zero (suc m) t = absurd (subst T (eqb-suc-zero m) t)
-
-pub not_zero : (m : ℕ) → T (not (eqb m 0)) → 0 < m
-not_zero zero t = absurd t
-not_zero (suc m) t = omega arith
-
-pub less_one : (m : ℕ) → 0 < m → m < 2 ^ 64 → m - 1 < 2 ^ 64
-less_one m h f = omega (arith, h, f)
-
--- the precondition of the calls on the number of tokens
-pub two_at_least : (m n : ℕ) → 0 < m → m < n → 1 < n
-two_at_least m n h k = omega (arith, h, k)
-
-pub one_fewer : (m : ℕ) (ws vs : List (List ℕ)) → 0 < m → m < length ws → vs ≡ list_drop 1 ws → m - 1 < length vs
-one_fewer m [] vs h k e = absurd (omega (arith, k))
-one_fewer m (w ∷ ws) vs h k e = omega (arith, h, k, ap length e)
-
--- one less is less
-pub falls : (m : ℕ) → 0 < m → m - 1 < m
-falls m h = omega (arith, h)
-
--- a number that was counted down is one
-pub number_made : {M : Type 1} {𝓤 : Ura M} (𝓛 : Logic 𝓤) (n : ℕ) → n < 2 ^ 64 → ent 𝓤 (emp 𝓤) (sem 𝓛 (usize.own_val n (uint_vals w64 n)))
-number_made 𝓛 n fits = qed 𝓛 [] ∵ flt_i ! n (2 ^ 64) fits $ feq_i ! (List Val) (uint_vals w64 n) (uint_vals w64 n) refl $ fjoin ! $ done !
 
 -- A lender follows a part by a relation, and the part follows a part of its own: a relation to the inner part is one of the lender.
 module _ {M : Type 1} {𝓤 : Ura M} (𝓛 : Logic 𝓤) (R S T U : RattleType) (O : S.Denot → R.Denot → Type 0) (O₀ : R.Denot → Type 0)

@@ -1,9 +1,8 @@
 -- The value that a token refers to in a value, from its list of elements or entries.
 use Rattle.std.proofs.Common.{◌≡◌, ℕ, Bool, true, false, List, [], ◌∷◌, Option, Some, None, option_map}
-use Rattle.std.proofs.Common.{option_copied, eqb, length, refl, ap, ◌∙◌, arith}
+use Rattle.std.proofs.Common.{option_copied, eqb, is_some, length, refl, sym, ap, ◌∙◌}
 use Rattle.std.specs.Prelude.{◌==◌, ◌≢◌, option_and_then, slice_get}
 use Rattle.std.proofs.lemmas.Bool.{eqb-true}
-use Rattle.std.proofs.lemmas.Bool.Decides.{nat_tests}
 use denote.Ref.{Bor}
 use mathlib.Core.Bool.{true≢false}
 use Rattle.ijson_table.specs.Store.{Store, lookup}
@@ -13,7 +12,8 @@ use Rattle.ijson_value.specs.laws.Steps.{item_at, value_at}
 use Rattle.ijson_value.proofs.Found.{found_tree}
 use Rattle.ijson_value.specs.WellFormed.{WellFormed, tree_of}
 use Rattle.ijson_value.specs.Tree.{Tree}
-use Rattle.ijson_extra.specs.Pointer.{meant, all_meant, written_tokens, position_named, child_at, followed, resolved}
+use Rattle.ijson_extra.specs.Pointer.{meant, all_meant, written_tokens, position_named, tokens_of, child_at, followed, resolved}
+use Rattle.ijson_extra.proofs.Pointers.{none_zero}
 use Rattle.ijson_extra.proofs.tokens.Positions.{same_position}
 
 item_named : (vs : List WellFormed) (o : Option ℕ)
@@ -37,16 +37,18 @@ pub child_member : (v : WellFormed) (s : Store WellFormed) (o : Option (Bor Well
 child_member v s o m is e = found_tree o ∙ ap (option_map tree_of) e ∙ value_at s.pairs m ∙ ap (λ w. child_at (tree_of w) m) is
 
 -- ---- a text that is not a pointer
-begins_by : (t : Tree) (b : ℕ) (text : List ℕ) (r : Bool) → eqb b 47 ≡ r → ((rest : List ℕ) → b ∷ text ≢ 47 ∷ rest)
-    → resolved t (b ∷ text) ≡ None
-begins_by t b text true e h = absurd (h text (ap (λ c. c ∷ text) (eqb-true b 47 e)))
-begins_by t b text false e h = ap (λ (r : Bool). option_map (followed t) (elim r [ true ↦ all_meant (written_tokens text) | false ↦ None ]))
-    e
+begins_by : (b : ℕ) (text : List ℕ) (r : Bool) → eqb b 47 ≡ r → ((rest : List ℕ) → b ∷ text ≢ 47 ∷ rest) → tokens_of (b ∷ text) ≡ None
+begins_by b text true e h = absurd (h text (ap (λ c. c ∷ text) (eqb-true b 47 e)))
+begins_by b text false e h = ap (λ (r : Bool). elim r [ true ↦ all_meant (written_tokens text) | false ↦ None ]) e
+
+pub no_tokens : (text : List ℕ) (r : Bool) → r ≡ (length text == 0) → ((rest : List ℕ) → text ≢ 47 ∷ rest) → r ≡ is_some (tokens_of text)
+no_tokens [] r e h = e
+no_tokens (b ∷ text) r e h = e ∙ sym (none_zero (length text)) ∙ sym (ap is_some (begins_by b text (eqb b 47) refl h))
 
 pub no_pointer : (t : Tree) (text : List ℕ) → (length text == 0) ≡ false → ((rest : List ℕ) → text ≢ 47 ∷ rest) → resolved t text ≡ None
 no_pointer t [] e h = absurd (true≢false e)
-no_pointer t (b ∷ text) e h = begins_by t b text (eqb b 47) refl h
+no_pointer t (b ∷ text) e h = ap (option_map (followed t)) (begins_by b text (eqb b 47) refl h)
 
 pub not_empty : (text : List ℕ) → (text ≡ [] → ⊥) → (length text == 0) ≡ false
 not_empty [] h = absurd (h refl)
-not_empty (b ∷ text) h = grind (arith, nat_tests)
+not_empty (b ∷ text) h = sym (none_zero (length text))

@@ -1,18 +1,16 @@
 //! Mutable access to the value that a pointer refers to.
-ghost use Rattle.std.specs.Prelude.{◌≡◌, ◌<◌, ◌↔◌, [], ◌∷◌, suc, drop, length, Some, None, IsSome, IsTrue, IfOk, IfErr, IfSome};
-ghost use Rattle.std.specs.Prelude.{IfNone, option_map};
+ghost use Rattle.std.specs.Prelude.{◌≡◌, ◌<◌, ◌↔◌, [], ◌∷◌, length, Some, None, IsTrue, IfOk, IfErr, IfSome, IfNone, is_some, option_map};
 ghost use Rattle.std.specs.Borrow.{sem};
 ghost use Rattle.ijson_value.specs.LendsPart.{LendsOpened};
 ghost use Rattle.ijson_value.specs.NodeValue.{node_value};
-ghost use Rattle.ijson_value.specs.Tree.{Tree};
 ghost use Rattle.ijson_value.specs.Values.{array_tree, object_tree};
 ghost use Rattle.ijson_extra.specs.LendsNamedValue.{LendsNamedValue};
 ghost use Rattle.ijson_extra.specs.LendsResolved.{LendsResolved, unresolved};
-ghost use Rattle.ijson_extra.specs.Pointer.{all_meant, written_tokens, resolved};
-ghost use Rattle.ijson_extra.specs.private.Walked.{HasTokens, LendsNamedInside, LendsNamedItem, LendsNamedMember, LendsNamed};
-ghost use Rattle.ijson_extra.specs.private.Walked.{LendsWalked, tree_lent, node_tree, steps_of, walked, written_at};
+ghost use Rattle.ijson_extra.specs.Pointer.{all_meant, tokens_of, written_tokens, resolved};
+ghost use Rattle.ijson_extra.specs.private.Walked.{LendsNamedInside, LendsNamedItem, LendsNamedMember, LendsNamed};
+ghost use Rattle.ijson_extra.specs.private.Walked.{tree_lent, node_tree, first_of, found_at, written_at};
 
-use super::{PointerError, find_member, is_token, position_below};
+use super::{Pointer, PointerError, find_member, is_token, position_below};
 use ijson_value::array::IArray;
 use ijson_value::object::IObject;
 use ijson_value::value::{Destructured, IValue};
@@ -46,8 +44,8 @@ pub enum Unresolved {
 ///
 /// # Cost
 ///
-/// That of `resolve`, plus up to two more passes over the pointer. It does not allocate. The stack grows with each token that leads to a
-/// value.
+/// That of `resolve`, plus one more pass over the pointer. It does not allocate. The stack grows with each
+/// token that leads to a value.
 pub fn resolve_mut<'a>(
     value: &'a mut IValue,
     pointer: &str,
@@ -57,13 +55,10 @@ pub fn resolve_mut<'a>(
         Some (option_map (λ v. v.now.tree) found) ≡ resolved value.old.tree pointer.now) }
     ensures refused { IfErr result (λ _. resolved value.old.tree pointer.now ≡ None) }
 {
-    if names_itself(pointer) {
-        return Ok(Some(value));
+    if is_pointer(pointer) {
+        return Ok(value.pointer_mut(pointer));
     }
-    match count_pointer(pointer) {
-        Some(more) => Ok(inside(opened(value), pointer, more)),
-        None => Err(PointerError::Syntax),
-    }
+    Err(PointerError::Syntax)
 }
 
 /// Like `resolve_mut`, but returns the content of the value, and an error if there is none.
@@ -89,102 +84,91 @@ pub fn resolve_opened_mut<'a>(
     if pointer.is_empty() {
         return Ok(&mut **value);
     }
-    let Some(more) = count_pointer(pointer) else {
-        return Err(Unresolved::NoPointer(PointerError::Syntax));
-    };
-    match inside(&mut **value, pointer, more) {
+    match inside(&mut **value, pointer) {
         Some(found) => Ok(&mut **found),
-        None => Err(Unresolved::Nothing),
+        None if is_pointer(pointer) => Err(Unresolved::Nothing),
+        None => Err(Unresolved::NoPointer(PointerError::Syntax)),
     }
 }
 
 /// Returns `true` if a pointer refers to the value itself.
-fn names_itself(pointer: &str) -> bool
+pub(super) fn names_itself(pointer: &str) -> bool
     ensures { IsTrue result ↔ (pointer.now ≡ []) }
 {
     pointer.is_empty()
 }
 
 /// Returns a mutable reference to the content of the value.
-fn opened(value: &mut IValue) -> &mut Destructured
+pub(super) fn opened(value: &mut IValue) -> &mut Destructured
     ensures* writes_back { sem 𝓛 (LendsOpened value.entry result) }
     ensures value { node_value result.now ≡ value.old }
 {
     &mut **value
 }
 
-/// Returns a mutable reference to the value at a pointer of `more` + 1 tokens.
-fn inside<'a>(opened: &'a mut Destructured, pointer: &str, more: usize) -> Option<&'a mut IValue>
-    requires { HasTokens pointer.now more }
-    ensures* writes_back { sem 𝓛 (LendsNamedInside opened.entry pointer.now result) }
-    ensures value { Some (tree_lent result) ≡ resolved (node_tree opened.old) pointer.now }
-{
-    let Some(left) = pointer.strip_prefix('/') else {
-        unreachable!();
-    };
-    walk(opened, left, more)
-}
-
-/// Returns the number of tokens after the first, or `None` if the text is not a pointer.
-///
-/// The pointer must not be empty.
-fn count_pointer(pointer: &str) -> Option<usize>
+/// Returns a mutable reference to the value at a pointer that is not empty.
+pub(super) fn inside<'a>(opened: &'a mut Destructured, pointer: &str) -> Option<&'a mut IValue>
     requires { (pointer.now ≡ []) → ⊥ }
-    ensures some { IfSome result (HasTokens pointer.now) }
-    ensures none { IfNone result ((t : Tree) → resolved t pointer.now ≡ None) }
+    ensures* writes_back { sem 𝓛 (LendsNamedInside opened.entry pointer.now result) }
+    ensures value { tree_lent result ≡ found_at (node_tree opened.old) pointer.now }
 {
     match pointer.strip_prefix('/') {
-        Some(left) => count_more(left),
+        Some(left) => walk(opened, left),
         None => None,
     }
 }
 
-/// Returns the number of tokens after the first, or `None` if any token has an invalid escape.
-fn count_more(tokens: &str) -> Option<usize>
-    ensures some { IfSome result (λ more. IsSome (all_meant (written_tokens tokens.now))
-        × (length (written_tokens tokens.now) ≡ suc more)) }
-    ensures none { IfNone result (all_meant (written_tokens tokens.now) ≡ None) }
+/// Returns `true` if the text is a pointer.
+fn is_pointer(pointer: &str) -> bool
+    ensures { result ≡ is_some (tokens_of pointer.now) }
 {
-    let mut left = tokens;
-    let mut more: usize = 0;
-    while let Some((token, behind)) = left.split_once('/') {
-        if !is_token(token) {
-            return None;
-        }
-        more += 1;
-        left = behind;
+    match pointer.strip_prefix('/') {
+        Some(left) => are_tokens(left),
+        None => pointer.is_empty(),
     }
-    if is_token(left) { Some(more) } else { None }
 }
 
-/// Follows the first token of `left` and `more` further ones to a value.
+/// Returns `true` if no token has an invalid escape.
+fn are_tokens(tokens: &str) -> bool
+    ensures { result ≡ is_some (all_meant (written_tokens tokens.now)) }
+{
+    let mut left = tokens;
+    while let Some((token, behind)) = left.split_once('/') {
+        if !is_token(token) {
+            return false;
+        }
+        left = behind;
+    }
+    is_token(left)
+}
+
+/// Follows the tokens of `left` to a value.
 ///
 /// It recurses once for each token that leads to a value, so at most as deep as values nest.
-fn walk<'a>(from: &'a mut Destructured, left: &str, more: usize) -> Option<&'a mut IValue>
-    requires { more < length (written_tokens left.now) }
-    ensures* writes_back { sem 𝓛 (LendsWalked from.entry left.now more result) }
-    ensures value { tree_lent result ≡ walked (steps_of left.now more) (Some (node_tree from.old)) }
+fn walk<'a>(from: &'a mut Destructured, left: &str) -> Option<&'a mut IValue>
+    ensures* writes_back { sem 𝓛 (LendsNamedInside from.entry (47 ∷ left.now) result) }
+    ensures value { tree_lent result ≡ found_at (node_tree from.old) (47 ∷ left.now) }
 {
     let Some(found) = first_mut(from, left) else {
         return None;
     };
-    if more == 0 {
+    let Some(behind) = behind_first(left) else {
         return Some(found);
-    }
-    walk(opened(found), behind_first(left), more - 1)
+    };
+    walk(opened(found), behind)
 }
 
 /// Follows the first token to a value.
 fn first_mut<'a>(opened: &'a mut Destructured, left: &str) -> Option<&'a mut IValue>
-    ensures* writes_back { sem 𝓛 (LendsWalked opened.entry left.now 0 result) }
-    ensures value { tree_lent result ≡ walked (steps_of left.now 0) (Some (node_tree opened.old)) }
+    ensures* writes_back { sem 𝓛 (LendsNamed opened.entry (first_of left.now) result) }
+    ensures value { tree_lent result ≡ written_at (node_tree opened.old) (first_of left.now) }
 {
     child_mut(opened, first_token(left))
 }
 
 /// Returns the first token.
 fn first_token(left: &str) -> &str
-    ensures { steps_of left.now 0 ≡ result.now ∷ [] }
+    ensures { result.now ≡ first_of left.now }
 {
     match left.split_once('/') {
         Some((token, _)) => token,
@@ -192,12 +176,16 @@ fn first_token(left: &str) -> &str
     }
 }
 
-/// Returns the text after the first token.
-fn behind_first(left: &str) -> &str
-    requires { 1 < length (written_tokens left.now) }
-    ensures { written_tokens result.now ≡ drop 1 (written_tokens left.now) }
+/// Returns the text after the first token, or `None` if there is no other token.
+fn behind_first(left: &str) -> Option<&str>
+    ensures some { IfSome result (λ behind. (length behind.now < length left.now)
+        × (written_tokens left.now ≡ first_of left.now ∷ written_tokens behind.now)) }
+    ensures none { IfNone result (written_tokens left.now ≡ first_of left.now ∷ []) }
 {
-    left.split_once('/').unwrap().1
+    match left.split_once('/') {
+        Some((_, behind)) => Some(behind),
+        None => None,
+    }
 }
 
 /// Returns a mutable reference to the value that a token refers to.

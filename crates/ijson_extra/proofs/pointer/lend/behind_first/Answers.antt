@@ -1,17 +1,15 @@
-use Rattle.std.proofs.Common.{refl, arith}
+use Rattle.std.proofs.Common.{arith}
 use Rattle.std.proofs.lemmas.Str.Pattern.{split_parts}
-use Rattle.ijson_extra.specs.Pointer.{written_tokens}
-use Rattle.ijson_extra.proofs.tokens.Counted.{more_there, passed_more}
+use Rattle.ijson_extra.proofs.tokens.Counted.{behind_before, alone_last}
 use Rattle.ijson_extra.proofs.pointer.lend.behind_first.Goals as goal
 
-pub unwrap-requires : goal.unwrap-requires
-unwrap-requires c =
+pub returns-in-Some-clause-some : goal.returns-in-Some-clause-some
+returns-in-Some-clause-some c =
     let left = c.args.left.now in
-    let parts = split_parts 47 left c.split_once.result c.split_once.ensures.cases (omega arith) in
-    more_there (written_tokens left) left 0 1 c.split_once.result parts refl (omega arith) c.requires
+    let parts = rw c.in-Some.is at (split_parts 47 left c.split_once.result c.split_once.ensures.cases (omega arith)) in
+    behind_before left c.in-Some.field-0-0.now c.in-Some.behind.now parts.0 parts.1
 
-pub returns : goal.returns
-returns c =
+pub returns-in-None-clause-none : goal.returns-in-None-clause-none
+returns-in-None-clause-none c =
     let left = c.args.left.now in
-    let parts = rw c.unwrap.ensures at (split_parts 47 left c.split_once.result c.split_once.ensures.cases (omega arith)) in
-    passed_more (written_tokens left) left c.unwrap.result.0.now c.unwrap.result.1.now 0 parts.0 parts.1 refl
+    alone_last left (rw c.in-None.is at (split_parts 47 left c.split_once.result c.split_once.ensures.cases (omega arith)))
