@@ -9,7 +9,7 @@ TOP = pathlib.Path(__file__).resolve().parent.parent
 
 # The crates, lowest first.
 ORDER = re.findall(r"^(\w+):", (TOP / "crates.txt").read_text(), re.M)
-BLOCK = re.compile(r"^(?:pub(?:\([a-z]+\))? )?(impl|trait)\b(?:<[^{]*?>(?= ))? ?(.*?)(?: \{)?$")
+BLOCK = re.compile(r"^(?:pub(?:\([a-z]+\))? )?(impl|trait)\b(.*?)(?: \{\}?)?$")
 FUNCTION = re.compile(r"^( *)(pub )?(?:final )?fn (\w+)")
 GHOST = re.compile(r"^    ghost (\w+)(?: =|:)")
 TYPE = re.compile(r"^pub (struct|enum|trait|type) (\w+)")
@@ -86,9 +86,13 @@ def closing(text, at):
     return len(text)
 
 
+def without_lifetimes(text):
+    return re.sub(r"'\w+,? ?", "", text).replace("<>", "")
+
+
 def parts_of(signature, owner):
     """The types of a call's parameters and of its answer, each parameter of type as `impl` of its bound."""
-    text = re.sub(r"<'_>|'\w+,? ?", "", re.sub(r"^(?:pub )?fn \w+", "", signature)).replace("<>", "").replace("Self", owner or "")
+    text = without_lifetimes(re.sub(r"^(?:pub )?fn \w+", "", signature)).replace("Self", owner or "")
     bounds = {}
     if text.startswith("<"):
         end = closing(text, 0)
@@ -150,12 +154,15 @@ def is_outermost(line):
 
 
 def block_at(line):
-    """(kind, header, owner) of the implementation or the trait that begins in a line, or None."""
-    block = BLOCK.match(without_generics(line))
-    if not block:
-        return None
-    kind, header = block.groups()
-    return kind, header, re.split(r"[\s:{]", header.split(" for ")[-1].strip())[0]
+    """The kind and the header of the implementation or the trait that begins in a line, without the parameters of an implementation."""
+    block = BLOCK.match(line)
+    kind, head = block.groups() if block else (None, "")
+    return kind, (head[closing(head, 0) + 1:] if head.startswith("<") else head).strip()
+
+
+def owner_of(header):
+    """The type or the trait whose members follow a header, or None."""
+    return re.split(r"[\s:]", without_generics(header).split(" for ")[-1])[0] or None
 
 
 def members_in(crate, path, public):
@@ -164,9 +171,10 @@ def members_in(crate, path, public):
     lines = path.read_text().splitlines()
     for at, line in enumerate(lines):
         if is_outermost(line):
-            kind, head, owner = block_at(line) or (None, "", None)
-            header, first = head if kind == "trait" or " for " in head else None, at
-            owner = "nothing public" if head.startswith(SKIPPED) else owner
+            kind, head = block_at(line)
+            head, first = without_generics(head), at
+            owner = "nothing public" if head.startswith(SKIPPED) else owner_of(head)
+            header = head if kind == "trait" or " for " in head else None
         if owner and owner not in public:
             continue
         function, ghost = FUNCTION.match(line), GHOST.match(line)
@@ -199,8 +207,7 @@ def constants_in(crate, path, public):
     lines, owner = path.read_text().splitlines(), None
     for at, line in enumerate(lines):
         if is_outermost(line):
-            block = block_at(line)
-            owner = block[2] if block else None
+            owner = owner_of(block_at(line)[1])
         found = CONSTANT.match(line)
         if found and (owner if found.group(1) else found.group(2)) in public:
             yield Constant(crate, path, owner, *found.groups()[1:], doc_above(lines, at))
@@ -209,11 +216,9 @@ def constants_in(crate, path, public):
 def implementations_in(crate, path, public):
     """The traits that a file implements by hand, also for private types."""
     for line in path.read_text().splitlines():
-        if line.startswith("impl") and " for " in line:
-            head = line.removeprefix("impl").partition(" {")[0]
-            head = head[closing(head, 0) + 1:] if head.startswith("<") else head
-            trait, _, owner = head.strip().replace("fmt::", "").partition(" for ")
-            yield Implementation(crate, path, trait, owner)
+        kind, head = block_at(line)
+        if kind == "impl" and " for " in head:
+            yield Implementation(crate, path, *head.replace("fmt::", "").split(" for ", 1))
 
 
 def sources(crates="ijson_*"):
