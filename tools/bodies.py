@@ -28,7 +28,7 @@ class Tests:
         for path in sorted(surface.TOP.glob("crates/*/src/tests.rt")) + sorted(surface.TOP.glob("crates/*/src/tests/**/*.rt")):
             crate, _, _, *module = path.relative_to(surface.TOP / "crates").with_suffix("").parts
             self.functions += [Function(crate, module, found) for found in FUNCTION.finditer(path.read_text())]
-        self.methods = {call.path_name for call in surface.public_calls() if SELF.search(call.signature)}
+        self.methods = {call.path_name for call in surface.of_all(surface.calls_in) if SELF.search(call.signature)}
 
     def named(self, name):
         """The tests of this name: its module below `tests` and its own name."""

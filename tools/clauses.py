@@ -1,5 +1,6 @@
 """The contracts of the crates' calls, read from the sources."""
 
+import functools
 import re
 
 import surface
@@ -85,6 +86,7 @@ def says_nothing(text):
     return text in ("", "⊤") or (len(sides) == 2 and sides[0] == sides[1])
 
 
+@functools.lru_cache(None)
 def traits():
     """The clauses of the calls of each trait that the crates declare, also the private ones, by trait and call."""
     found = {}
@@ -96,8 +98,8 @@ def traits():
     return found
 
 
-def contract_of(call, declared):
+def contract_of(call):
     """(kind, name, text) of the promises of a call: its own clauses, those of its trait, and ghost members of its implementation."""
-    own = clauses_of(call) + declared.get((call.trait, call.name), [])
+    own = clauses_of(call) + traits().get((call.trait, call.name), [])
     ghosts = [("ghost", name, text) for first, _, name, text in ghosts_of(call.lines) if first == call.first and name not in LAWS]
     return [clause for clause in own if clause[0] != "requires"] + (ghosts if call.trait else [])

@@ -1,6 +1,7 @@
 """The public surface of the crates, read from the sources."""
 
 import collections
+import functools
 import pathlib
 import re
 import sys
@@ -22,7 +23,7 @@ SKIPPED = ("Model for ", "Eq for ", "FusedIterator for ")
 
 class Call(collections.namedtuple("Call", "crate path owner name signature sentence header lines first at")):
     """A call, or a ghost member of an implementation, which has no signature. The header is that of its trait, or of the implementation of a
-    trait, or None. `lines` are those of its file, `first` is the first line of its block, and `at` its own."""
+    trait, else empty. `lines` are those of its file, `first` is the first line of its block, and `at` its own."""
 
     @property
     def path_name(self):
@@ -31,13 +32,13 @@ class Call(collections.namedtuple("Call", "crate path owner name signature sente
 
     @property
     def group(self):
-        """The same for all members of a trait, or of an implementation of a trait, else None."""
-        return self.header and (self.path, self.header)
+        """The same for all members of a trait, or of an implementation of a trait."""
+        return self.path, self.header or self.at
 
     @property
     def trait(self):
         """The name of the trait that its block implements, or None."""
-        found = re.match(r"(?:\w+::)?(\w+).* for ", self.header or "")
+        found = re.match(r"(?:\w+::)?(\w+).* for ", self.header)
         return found and found.group(1)
 
 
@@ -167,14 +168,14 @@ def owner_of(header):
 
 def members_in(crate, path, public):
     """The public calls of a file, and the ghost members of its implementations of traits."""
-    owner, header, first = None, None, 0
+    owner, header, first = None, "", 0
     lines = path.read_text().splitlines()
     for at, line in enumerate(lines):
         if is_outermost(line):
             kind, head = block_at(line)
             head, first = without_generics(head), at
             owner = "nothing public" if head.startswith(SKIPPED) else owner_of(head)
-            header = head if kind == "trait" or " for " in head else None
+            header = head if kind == "trait" or " for " in head else ""
         if owner and owner not in public:
             continue
         function, ghost = FUNCTION.match(line), GHOST.match(line)
@@ -231,21 +232,7 @@ def sources(crates="ijson_*"):
                     yield crate.name, path, public
 
 
-def public_members():
-    return [call for source in sources() for call in members_in(*source)]
-
-
-def public_calls():
-    return [call for call in public_members() if call.signature]
-
-
-def public_types():
-    return [item for source in sources() for item in types_in(*source)]
-
-
-def public_constants():
-    return [item for source in sources() for item in constants_in(*source)]
-
-
-def implementations():
-    return [item for source in sources() for item in implementations_in(*source)]
+@functools.lru_cache(None)
+def of_all(items_in):
+    """What a function such as `calls_in` finds in all source files of the libraries."""
+    return [item for source in sources() for item in items_in(*source)]
