@@ -1,9 +1,8 @@
 """A workspace with copies of crates, for Rattle sources that are no crate of crates.txt: the gate wants the one list of crates at the top."""
 
-import pathlib
 import shutil
 
-TOP = pathlib.Path(__file__).resolve().parent.parent
+from surface import TOP
 
 
 def library_crates(*names):

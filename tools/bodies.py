@@ -20,10 +20,6 @@ class Function:
         self.words = {part for word in WORD.findall(self.body) for part in (word, *word.split("::"))}
 
 
-def is_method(call):
-    return bool(SELF.search(call.signature))
-
-
 class Tests:
     """The functions of the test files of all crates."""
 
@@ -32,7 +28,7 @@ class Tests:
         for path in sorted(surface.TOP.glob("crates/*/src/tests.rt")) + sorted(surface.TOP.glob("crates/*/src/tests/**/*.rt")):
             crate, _, _, *module = path.relative_to(surface.TOP / "crates").with_suffix("").parts
             self.functions += [Function(crate, module, found) for found in FUNCTION.finditer(path.read_text())]
-        self.methods = {f"{call.owner}::{call.name}" for call in surface.public_calls() if call.owner and call.signature and is_method(call)}
+        self.methods = {call.path_name for call in surface.of_all(surface.calls_in) if SELF.search(call.signature)}
 
     def named(self, name):
         """The tests of this name: its module below `tests` and its own name."""

@@ -1,5 +1,6 @@
 """The contracts of the crates' calls, read from the sources."""
 
+import functools
 import re
 
 import surface
@@ -23,46 +24,23 @@ def head_from(lines, at):
     return in_one_line(lines[at:end])
 
 
-def clauses_at(lines, at):
-    """(kind, name, text) of each clause of a function: its `requires` and its `ensures`, with a star or without."""
-    return [(kind, name.strip(), text.strip()) for kind, name, text in CLAUSE.findall(head_from(lines, at))]
+def clauses_of(call):
+    """(kind, name, text) of each clause of a call: its `requires` and its `ensures`, with a star or without."""
+    return [(kind, name.strip(), text.strip()) for kind, name, text in CLAUSE.findall(head_from(call.lines, call.at))]
 
 
 def ghosts_of(lines):
-    """(head, name, text) of each ghost member that an implementation by hand gives."""
-    head = None
+    """(first line, head, name, text) of each ghost member that an implementation by hand gives."""
+    first, head = 0, None
     for at, line in enumerate(lines):
         found = re.match(r"impl\b.* for .*(?= \{)", line)
-        head = found.group() if found else None if line.startswith("}") else head
+        first, head = (at, found.group()) if found else (0, None) if line.startswith("}") else (first, head)
         ghost = re.match(r"    ghost (\w+) = \{", line)
         if head and ghost:
             end = at
             while not lines[end].rstrip().endswith("};"):
                 end += 1
-            yield head, ghost.group(1), re.sub(r"^ghost \w+ = \{ ?|\ ?};$", "", in_one_line(lines[at:end + 1]))
-
-
-def blocks_of(lines):
-    """(header, first line, line) of each function of a file; the header is that of its `impl` or `trait`, or empty."""
-    header, first = "", 0
-    for at, line in enumerate(lines):
-        if surface.is_outermost(line):
-            block = surface.block_at(line)
-            header, first = f"{block[0]} {block[1]}" if block else "", at
-        if surface.FUNCTION.match(line):
-            yield header, first, at
-
-
-def place_of(call):
-    """The lines of a call's file, the first line of its block, and its own."""
-    lines = call.path.read_text().splitlines()
-    for header, first, at in blocks_of(lines):
-        kind, _, about = header.partition(" ")
-        owner = re.split(r"[\s:{]", about.split(" for ")[-1].strip())[0] or None
-        is_there = f"{call.path}: {about}" == call.group if call.group else owner == call.owner and " for " not in about
-        if is_there and surface.FUNCTION.match(lines[at]).group(3) == call.name and surface.signature_at(lines, at) == call.signature:
-            return lines, first, at
-    raise LookupError(f"{call.path}: {call.owner}::{call.name}")
+            yield first, head, ghost.group(1), re.sub(r"^ghost \w+ = \{ ?|\ ?};$", "", in_one_line(lines[at:end + 1]))
 
 
 WRAPPERS = ("IfOk", "IfErr", "IfSome", "OnOk", "OnErr", "sem")
@@ -108,25 +86,20 @@ def says_nothing(text):
     return text in ("", "⊤") or (len(sides) == 2 and sides[0] == sides[1])
 
 
+@functools.lru_cache(None)
 def traits():
-    """The clauses of the calls of each trait that the crates declare, by trait and call."""
+    """The clauses of the calls of each trait that the crates declare, also the private ones, by trait and call."""
     found = {}
-    for path in sorted(surface.TOP.glob("crates/ijson_*/src/**/*.rt")):
-        lines = path.read_text().splitlines()
-        for header, _, at in blocks_of(lines):
-            trait = re.match(r"trait (\w+)", header)
-            if trait:
-                found[trait.group(1), surface.FUNCTION.match(lines[at]).group(3)] = clauses_at(lines, at)
+    for crate, path, _ in surface.sources():
+        names = re.findall(r"^(?:pub(?:\(crate\))? )?trait (\w+)", path.read_text(), re.M)
+        for call in surface.calls_in(crate, path, names):
+            if call.header and not call.trait:
+                found[call.owner, call.name] = clauses_of(call)
     return found
 
 
-def contract_of(call, declared):
+def contract_of(call):
     """(kind, name, text) of the promises of a call: its own clauses, those of its trait, and ghost members of its implementation."""
-    lines, first, at = place_of(call)
-    trait = re.match(r".*?: (?:\w+::)?(\w+).* for ", call.group or "")
-    own = clauses_at(lines, at) + declared.get((trait and trait.group(1), call.name), [])
-    promises = [clause for clause in own if clause[0] != "requires"]
-    end = next((end for end in range(first, len(lines)) if lines[end].startswith("}")), len(lines))
-    if trait:
-        promises += [("ghost", name, text) for _, name, text in ghosts_of(lines[first:end]) if name not in LAWS]
-    return promises
+    own = clauses_of(call) + traits().get((call.trait, call.name), [])
+    ghosts = [("ghost", name, text) for first, _, name, text in ghosts_of(call.lines) if first == call.first and name not in LAWS]
+    return [clause for clause in own if clause[0] != "requires"] + (ghosts if call.trait else [])

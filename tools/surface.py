@@ -1,7 +1,7 @@
 """The public surface of the crates, read from the sources."""
 
 import collections
-import difflib
+import functools
 import pathlib
 import re
 import sys
@@ -10,10 +10,9 @@ TOP = pathlib.Path(__file__).resolve().parent.parent
 
 # The crates, lowest first.
 ORDER = re.findall(r"^(\w+):", (TOP / "crates.txt").read_text(), re.M)
-BLOCK = re.compile(r"^(?:pub(?:\([a-z]+\))? )?(impl|trait)\b(?:<[^{]*?>(?= ))? ?(.*?)(?: \{)?$")
+BLOCK = re.compile(r"^(?:pub(?:\([a-z]+\))? )?(impl|trait)\b(.*?)(?: \{\}?)?$")
 FUNCTION = re.compile(r"^( *)(pub )?(?:final )?fn (\w+)")
 GHOST = re.compile(r"^    ghost (\w+)(?: =|:)")
-CLAUSE = re.compile(r"^ +ensures\*? (\w+) \{")
 TYPE = re.compile(r"^pub (struct|enum|trait|type) (\w+)")
 CONSTANT = re.compile(r"^( *)pub const (\w+): ([^=]+?) =")
 ENDS = re.compile(r"^ +(?:requires|ensures|decreases|ghost)\b|^\s*(?:where\b|\}|//)")
@@ -22,8 +21,9 @@ ENDS = re.compile(r"^ +(?:requires|ensures|decreases|ghost)\b|^\s*(?:where\b|\}|
 SKIPPED = ("Model for ", "Eq for ", "FusedIterator for ")
 
 
-class Call(collections.namedtuple("Call", "crate path owner name signature sentence clauses group")):
-    """One call, or one ghost member of an implementation. The group is the implementation of a trait that it belongs to, if any."""
+class Call(collections.namedtuple("Call", "crate path owner name signature sentence header lines first at")):
+    """A call, or a ghost member of an implementation, which has no signature. The header is that of its trait, or of the implementation of a
+    trait, else empty. `lines` are those of its file, `first` is the first line of its block, and `at` its own."""
 
     @property
     def path_name(self):
@@ -31,18 +31,24 @@ class Call(collections.namedtuple("Call", "crate path owner name signature sente
         return f"{self.owner}::{self.name}" if self.owner else self.name
 
     @property
-    def is_of_trait(self):
-        """Whether it belongs to the implementation of a trait."""
-        return " for " in (self.group or "")
+    def group(self):
+        """The same for all members of a trait, or of an implementation of a trait."""
+        return self.path, self.header or self.at
+
+    @property
+    def trait(self):
+        """The name of the trait that its block implements, or None."""
+        found = re.match(r"(?:\w+::)?(\w+).* for ", self.header)
+        return found and found.group(1)
 
 
-# A struct, an enum, a trait or an alias of a type.
-Type = collections.namedtuple("Type", "crate path kind name sentence")
+# A struct, an enum, a trait or an alias of a type, with the names in its derives and the text of its declaration.
+Type = collections.namedtuple("Type", "crate path kind name sentence derived text")
 
 # A constant of a type, or of a module, which has no owner then.
 Constant = collections.namedtuple("Constant", "crate path owner name kind sentence")
 
-# A trait that is implemented by hand for a public type.
+# A trait that is implemented by hand, and the type, both as they are written.
 Implementation = collections.namedtuple("Implementation", "crate path trait owner")
 
 
@@ -51,14 +57,6 @@ def report(held, amiss):
     for line in amiss:
         print(line, file=sys.stderr)
     print(held, len(amiss))
-
-
-def differences(found, wanted):
-    """The lines of another list that a list lacks, and its superfluous lines. A line at another place is both."""
-    parts = difflib.SequenceMatcher(None, found, wanted, autojunk=False).get_opcodes()
-    missing = [line for kind, _, _, start, end in parts if kind != "equal" for line in wanted[start:end]]
-    more = [line for kind, start, end, _, _ in parts if kind != "equal" for line in found[start:end]]
-    return missing, more
 
 
 def without_generics(text):
@@ -89,9 +87,13 @@ def closing(text, at):
     return len(text)
 
 
+def without_lifetimes(text):
+    return re.sub(r"'\w+,? ?", "", text).replace("<>", "")
+
+
 def parts_of(signature, owner):
     """The types of a call's parameters and of its answer, each parameter of type as `impl` of its bound."""
-    text = re.sub(r"<'_>|'\w+,? ?", "", re.sub(r"^(?:pub )?fn \w+", "", signature)).replace("<>", "").replace("Self", owner or "")
+    text = without_lifetimes(re.sub(r"^(?:pub )?fn \w+", "", signature)).replace("Self", owner or "")
     bounds = {}
     if text.startswith("<"):
         end = closing(text, 0)
@@ -119,14 +121,17 @@ def exports(module):
     return names
 
 
+def above(lines, at, mark):
+    """The rest of each line with a mark, among the comments and attributes above a line."""
+    first = at
+    while first and re.match(r"\s*(///|#\[)", lines[first - 1]):
+        first -= 1
+    return [line.split(mark, 1)[1].strip() for line in lines[first:at] if mark in line]
+
+
 def doc_above(lines, at):
     """The doc comment above a line, as one text."""
-    texts, at = [], at - 1
-    while at >= 0 and re.match(r"\s*(///|#\[)", lines[at]):
-        if "///" in lines[at]:
-            texts.append(lines[at].split("///", 1)[1].strip())
-        at -= 1
-    return " ".join(reversed(texts))
+    return " ".join(above(lines, at, "///"))
 
 
 def signature_at(lines, at):
@@ -150,49 +155,52 @@ def is_outermost(line):
 
 
 def block_at(line):
-    """(kind, header, owner) of the implementation or the trait that begins in a line, or None."""
-    block = BLOCK.match(without_generics(line))
-    if not block:
-        return None
-    kind, header = block.groups()
-    return kind, header, re.split(r"[\s:{]", header.split(" for ")[-1].strip())[0]
+    """The kind and the header of the implementation or the trait that begins in a line, without the parameters of an implementation."""
+    block = BLOCK.match(line)
+    kind, head = block.groups() if block else (None, "")
+    return kind, (head[closing(head, 0) + 1:] if head.startswith("<") else head).strip()
 
 
-def calls_in(crate, path, public):
-    """The public calls of a file, with the names of their clauses. Those of one block of a trait are one group."""
-    owner = group = call = None
+def owner_of(header):
+    """The type or the trait whose members follow a header, or None."""
+    return re.split(r"[\s:]", without_generics(header).split(" for ")[-1])[0] or None
+
+
+def members_in(crate, path, public):
+    """The public calls of a file, and the ghost members of its implementations of traits."""
+    owner, header, first = None, "", 0
     lines = path.read_text().splitlines()
     for at, line in enumerate(lines):
         if is_outermost(line):
-            owner = group = call = None
-            block = block_at(line)
-            if block:
-                kind, header, owner = block
-                group = f"{path}: {header}" if kind == "trait" or " for " in header else None
-                if header.startswith(SKIPPED):
-                    owner = "nothing public"
+            kind, head = block_at(line)
+            head, first = without_generics(head), at
+            owner = "nothing public" if head.startswith(SKIPPED) else owner_of(head)
+            header = head if kind == "trait" or " for " in head else ""
         if owner and owner not in public:
             continue
-        function, ghost, clause = FUNCTION.match(line), GHOST.match(line), CLAUSE.match(line)
+        function, ghost = FUNCTION.match(line), GHOST.match(line)
         if function:
             indent, is_public, name = function.groups()
             free = not indent and not owner and name in public
-            call = None
-            if free or (owner and indent == "    " and (is_public or group)):
-                call = Call(crate, path, owner, name, signature_at(lines, at), doc_above(lines, at), set(), group)
-                yield call
-        elif ghost and group:
-            yield Call(crate, path, owner, ghost.group(1), None, "", set(), group)
-        elif clause and call:
-            call.clauses.add(clause.group(1))
+            if free or (owner and indent == "    " and (is_public or header)):
+                yield Call(crate, path, owner, name, signature_at(lines, at), doc_above(lines, at), header, lines, first, at)
+        elif ghost and header:
+            yield Call(crate, path, owner, ghost.group(1), None, "", header, lines, first, at)
+
+
+def calls_in(crate, path, public):
+    return [call for call in members_in(crate, path, public) if call.signature]
 
 
 def types_in(crate, path, public):
+    """The public types of a file."""
     lines = path.read_text().splitlines()
     for at, line in enumerate(lines):
         found = TYPE.match(line)
         if found and found.group(2) in public:
-            yield Type(crate, path, *found.groups(), doc_above(lines, at))
+            end = at if line.endswith((";", "}")) else lines.index("}", at)
+            derived = [name for names in above(lines, at, "#[derive(") for name in split_at_commas(names.removesuffix(")]"))]
+            yield Type(crate, path, *found.groups(), doc_above(lines, at), derived, "\n".join(lines[at:end + 1]))
 
 
 def constants_in(crate, path, public):
@@ -200,24 +208,23 @@ def constants_in(crate, path, public):
     lines, owner = path.read_text().splitlines(), None
     for at, line in enumerate(lines):
         if is_outermost(line):
-            block = block_at(line)
-            owner = block[2] if block else None
+            owner = owner_of(block_at(line)[1])
         found = CONSTANT.match(line)
         if found and (owner if found.group(1) else found.group(2)) in public:
             yield Constant(crate, path, owner, *found.groups()[1:], doc_above(lines, at))
 
 
 def implementations_in(crate, path, public):
-    """The traits that are implemented by hand for the public types of a file, except models."""
+    """The traits that a file implements by hand, also for private types."""
     for line in path.read_text().splitlines():
-        block = block_at(line) if line.startswith("impl") else None
-        if block and " for " in block[1] and block[2] in public and not block[1].startswith("Model for "):
-            yield Implementation(crate, path, block[1].split(" for ")[0].replace("fmt::", ""), block[2])
+        kind, head = block_at(line)
+        if kind == "impl" and " for " in head:
+            yield Implementation(crate, path, *head.replace("fmt::", "").split(" for ", 1))
 
 
-def sources():
-    """(crate, file, exports of the crate) of each source file of a library below the top crate, except tests."""
-    for crate in sorted(TOP.glob("crates/ijson_*")):
+def sources(crates="ijson_*"):
+    """(crate, file, exports of the crate) of each source file of the libraries of this name, or of all below the top crate, except tests."""
+    for crate in sorted(TOP.glob(f"crates/{crates}")):
         if (crate / "src/lib.rt").exists():
             public = exports(crate / "src/lib.rt")
             for path in sorted(crate.glob("src/**/*.rt")):
@@ -225,17 +232,7 @@ def sources():
                     yield crate.name, path, public
 
 
-def public_calls():
-    return [call for source in sources() for call in calls_in(*source)]
-
-
-def public_types():
-    return [item for source in sources() for item in types_in(*source)]
-
-
-def public_constants():
-    return [item for source in sources() for item in constants_in(*source)]
-
-
-def implementations():
-    return [item for source in sources() for item in implementations_in(*source)]
+@functools.lru_cache(None)
+def of_all(items_in):
+    """What a function such as `calls_in` finds in all source files of the libraries."""
+    return [item for source in sources() for item in items_in(*source)]
