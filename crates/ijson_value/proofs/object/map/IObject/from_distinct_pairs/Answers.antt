@@ -20,12 +20,6 @@ push_reserved-requires g c =
     ) in
     omega (arith, more, ap length so_far.2, so_far.3, c.loop-pair.list.ok.0)
 
-pub returns-in_err-list-clause-pairs : goal.returns-in_err-list-clause-pairs
-returns-in_err-list-clause-pairs g c = IfOk-from_err c.from_residual.result _ c.from_residual.ensures.0
-
-pub returns-in_err-list-clause-capacity : goal.returns-in_err-list-clause-capacity
-returns-in_err-list-clause-capacity g c = IfOk-from_err c.from_residual.result _ c.from_residual.ensures.0
-
 pub loop-pair-preserved : goal.loop-pair-preserved
 loop-pair-preserved g c = (
   search rules,
