@@ -5,6 +5,3 @@ use Rattle.ijson_value.proofs.array.IArray.remove.Goals as goal
 
 pub returns-clause-item : goal.returns-clause-item
 returns-clause-item c = grind (arith, common_steps, gets)
-
-pub returns-clause-items : goal.returns-clause-items
-returns-clause-items c = grind (arith, common_steps)

@@ -1,6 +1,6 @@
 use Rattle.std.proofs.Common.{◌≡◌, ◌<◌, ◌++◌, [], ◌∷◌, length, arith, rules, sym, ap, subst, ◌∙◌, Err}
 use Rattle.std.specs.Prelude.{◌↔◌, IfOk}
-use Rattle.std.proofs.lemmas.Result.{IfOk-weaker, IfOk-from_err}
+use Rattle.std.proofs.lemmas.Result.{IfOk-weaker}
 use Rattle.ijson_table.specs.Growth.{capacity_limit}
 use Rattle.ijson_table.specs.declared.store.ReserveError.TheVariants.{TooLarge}
 use Rattle.ijson_table.proofs.pairs.PutEach.{put_each-new}
