@@ -1,10 +1,7 @@
-use Rattle.std.proofs.Common.{rules, refl, sym, ap, ◌∙◌}
+use Rattle.std.proofs.Common.{refl, sym, ap, ◌∙◌}
 use Rattle.ijson_value.specs.private.Boxed.{list_items}
 use Rattle.ijson_value.specs.private.LendsList.{with_list_items}
 use Rattle.ijson_value.proofs.array.index.items_mut.Goals as goal
-
-pub returns-in-Some : goal.returns-in-Some
-returns-in-Some c = (search rules, record { writes_back = tt; items = search rules })
 
 pub returns-in-None : goal.returns-in-None
 returns-in-None c = (

@@ -1,12 +1,12 @@
 -- A value lends its part, by a call for each kind. Assumes `Logic`.
-use Rattle.ijson_value.proofs.lends.Steps.{◌≡◌, ℕ, List, [], ◌∷◌, refl, sym, ap, subst, ◌∙◌, lit<, MutBor, proved, full_share, id⊢, Lft, ftrue}
+use Rattle.ijson_value.proofs.lends.Steps.{◌≡◌, [], ◌∷◌, refl, sym, ap, subst, ◌∙◌, lit<, MutBor, proved, full_share, id⊢, Lft, ftrue}
 use Rattle.ijson_value.proofs.lends.Steps.{flft, fres, named, Val, fact, tables, ‵, raw, ◌⊛◌, some, later, at_ret, ◌$◌, ◌∵◌, !, qed, done}
 use Rattle.ijson_value.proofs.lends.Steps.{move, keep, use1, use2, split, join, rewrite, fsplit, fsplit3, fjoin, pick, await, suffices}
 use Rattle.ijson_value.proofs.lends.Steps.{frame, enter, of_opd, lit, addr, fld, stop, no_more, and_then, first, exec, returns, alloc_all}
 use Rattle.ijson_value.proofs.lends.Steps.{pass_all, free_all, look_at, get, get_tag, through, sets, sets_last, lands_as, agg, env, no}
 use Rattle.ijson_value.proofs.lends.Steps.{MutRef, mut_vals, mut_Tells, plain, mut_ref_to, nothing, heard, only, whole, vrt, mut_ref_laws}
 use Rattle.ijson_value.proofs.lends.Steps.{calls_at, lasts, triple_of, Stays, walk_of, says, stay_dropped, Goes-spent_ref, ends_at, framed}
-use Rattle.ijson_value.proofs.lends.Steps.{lft_end, Sq, peeks, shows}
+use Rattle.ijson_value.proofs.lends.Steps.{lft_end, Sq, shows}
 use denote.Steps.{facts}
 use denote.Enum.Bare.{tag_one}
 use denote.Enum.Declared.{tag_of}
@@ -14,19 +14,15 @@ use denote.Laws.{Typed}
 use denote.RattleType.{RattleType}
 use types.ByLocal.{forget_but, holding}
 use types.Kit.{drop, post, prop}
-use types.Logic.{sem}
 use prog.Wp.{Wp}
-use base.Fml.{Fml}
-use base.Logic.{ent}
 use types.Match.{live, by_variants}
 use mir.Val.{of_list}
 use denote.Ref.{NamedLft}
 use Rattle.ijson_number.specs.contracts.repr.INumber.{the_row as NumberRow}
 use Rattle.ijson_string.specs.contracts.text.IString.{the_row as StringRow}
 use Rattle.ijson_value.specs.Kind.{kind_of}
-use Rattle.ijson_value.specs.LendsParts.{LendsParts, LendsBoolPart, LendsNumberPart, LendsStringPart, LendsArrayPart, LendsObjectPart}
+use Rattle.ijson_value.specs.LendsParts.{LendsParts}
 use Rattle.ijson_value.specs.Opened.{mut_value}
-use Rattle.ijson_value.specs.Values.{boolean_value, number_value, string_value, array_value, object_value}
 use Rattle.ijson_value.specs.WellFormed.{WellFormed}
 use Rattle.ijson_value.specs.contracts.array.IArray.{the_row as ArrayRow}
 use Rattle.ijson_value.specs.contracts.object.map.IObject.{the_row as ObjectRow}
@@ -41,7 +37,6 @@ use Rattle.ijson_value.proofs.value.ValueType.TheLaws.{the_row_laws as kind_laws
 use Rattle.ijson_value.proofs.value.destructure.BoolMut.TheLaws.{the_row_laws as bool_laws}
 use Rattle.ijson_value.proofs.lends.Called.{lent, back}
 use Rattle.ijson_value.proofs.lends.PartCalled.{part_called}
-use Rattle.ijson_value.proofs.value.destructure.DestructuredMut.TheLaws.{the_row_laws as parts_laws}
 use Rattle.ijson_value.proofs.lends.LentOn.{none_if}
 use Rattle.ijson_value.specs.declared.value.destructure.DestructuredMut.{DestructuredMut}
 use Rattle.ijson_value.proofs.lends.Kinds.{is_null}
@@ -115,35 +110,45 @@ destructure_mut_spec 𝓤 𝓛 𝓜 𝓡 wired =
           use1 𝓛 (‵ ((PartsOf at).own_val parts.Null (live 0 (of_list []) ∷ []))) (variant_made 𝓛 0 [] tt tt) $
           forget_but ! (env code.Mir.locals l) (4 ∷ []) refl $
           leaves (live 0 (of_list [])) parts.Null ((tt, (record { fits = lit< tt }, tt)), tt) (is_null r.now (is kind.Null e))),
-      ((λ e. sets ! (addr ! (through ! refl (stop !))) refl (tt, tt) $
-          part_called 𝓛 ! κ q r (framed 𝓤 𝓛.H 𝓜 𝓣) kind.Bool (is kind.Bool e) (BoolRow at) ((bool_laws at).lawful 𝓛).typed parts.Bool 1
-          (alone_made 𝓛 1 (BoolRow at)) (bool-thm.met 𝓤 𝓛 𝓜 𝓡 (code.calls-ijson_value::value::IValue::bool_part 𝓡.env wired))
-          ((κs, qs, tt, (r, tt), (vs, tt)), tt) (id⊢ 𝓤 _) (and_then ! (get ! refl) (no_more !)) (λ w. id⊢ 𝓤 _) (λ w part stands typed built.
-          lands_as ! refl refl typed.0 $ sets_last ! (agg ! (and_then ! (lit ! tt) (and_then ! (get ! refl) (no_more !)))) refl built.0 $
-          forget_but ! (env code.Mir.locals l) (4 ∷ []) refl $ leaves _ (parts.Bool part) built stands)),
-      ((λ e. sets ! (addr ! (through ! refl (stop !))) refl (tt, tt) $
-          part_called 𝓛 ! κ q r (framed 𝓤 𝓛.H 𝓜 𝓣) kind.Number (is kind.Number e) (Ref NumberRow) ((mut_ref_laws at NumberRow tt).lawful 𝓛).typed parts.Number 2
-          (alone_made 𝓛 2 (Ref NumberRow)) (number-thm.met 𝓤 𝓛 𝓜 𝓡 (code.calls-ijson_value::value::IValue::number_part 𝓡.env wired))
-          ((κs, qs, tt, (r, tt), (vs, tt)), tt) (id⊢ 𝓤 _) (and_then ! (get ! refl) (no_more !)) (λ w. id⊢ 𝓤 _) (λ w part stands typed built.
-          lands_as ! refl refl typed.0 $ sets_last ! (agg ! (and_then ! (lit ! tt) (and_then ! (get ! refl) (no_more !)))) refl built.0 $
-          forget_but ! (env code.Mir.locals l) (4 ∷ []) refl $ leaves _ (parts.Number part) built stands)),
-      ((λ e. sets ! (addr ! (through ! refl (stop !))) refl (tt, tt) $
-          part_called 𝓛 ! κ q r (framed 𝓤 𝓛.H 𝓜 𝓣) kind.String (is kind.String e) (Ref StringRow) ((mut_ref_laws at StringRow tt).lawful 𝓛).typed parts.String 3
-          (alone_made 𝓛 3 (Ref StringRow)) (string-thm.met 𝓤 𝓛 𝓜 𝓡 (code.calls-ijson_value::value::IValue::string_part 𝓡.env wired))
-          ((κs, qs, tt, (r, tt), (vs, tt)), tt) (id⊢ 𝓤 _) (and_then ! (get ! refl) (no_more !)) (λ w. id⊢ 𝓤 _) (λ w part stands typed built.
-          lands_as ! refl refl typed.0 $ sets_last ! (agg ! (and_then ! (lit ! tt) (and_then ! (get ! refl) (no_more !)))) refl built.0 $
-          forget_but ! (env code.Mir.locals l) (4 ∷ []) refl $ leaves _ (parts.String part) built stands)),
-      ((λ e. sets ! (addr ! (through ! refl (stop !))) refl (tt, tt) $
-          part_called 𝓛 ! κ q r (framed 𝓤 𝓛.H 𝓜 𝓣) kind.Array (is kind.Array e) (Ref ArrayRow) ((mut_ref_laws at ArrayRow tt).lawful 𝓛).typed parts.Array 4
-          (alone_made 𝓛 4 (Ref ArrayRow)) (array-thm.met 𝓤 𝓛 𝓜 𝓡 (code.calls-ijson_value::value::IValue::array_part 𝓡.env wired))
-          ((κs, qs, tt, (r, tt), (vs, tt)), tt) (id⊢ 𝓤 _) (and_then ! (get ! refl) (no_more !)) (λ w. id⊢ 𝓤 _) (λ w part stands typed built.
-          lands_as ! refl refl typed.0 $ sets_last ! (agg ! (and_then ! (lit ! tt) (and_then ! (get ! refl) (no_more !)))) refl built.0 $
-          forget_but ! (env code.Mir.locals l) (4 ∷ []) refl $ leaves _ (parts.Array part) built stands)),
-      ((λ e. sets ! (addr ! (through ! refl (stop !))) refl (tt, tt) $
-          part_called 𝓛 ! κ q r (framed 𝓤 𝓛.H 𝓜 𝓣) kind.Object (is kind.Object e) (Ref ObjectRow) ((mut_ref_laws at ObjectRow tt).lawful 𝓛).typed parts.Object 5
-          (alone_made 𝓛 5 (Ref ObjectRow)) (object-thm.met 𝓤 𝓛 𝓜 𝓡 (code.calls-ijson_value::value::IValue::object_part 𝓡.env wired))
-          ((κs, qs, tt, (r, tt), (vs, tt)), tt) (id⊢ 𝓤 _) (and_then ! (get ! refl) (no_more !)) (λ w. id⊢ 𝓤 _) (λ w part stands typed built.
-          lands_as ! refl refl typed.0 $ sets_last ! (agg ! (and_then ! (lit ! tt) (and_then ! (get ! refl) (no_more !)))) refl built.0 $
-          forget_but ! (env code.Mir.locals l) (4 ∷ []) refl $ leaves _ (parts.Object part) built stands)),
-      tt)))))
+      (
+        (λ e. sets ! (addr ! (through ! refl (stop !))) refl (tt, tt) $
+            part_called 𝓛 ! κ q r (framed 𝓤 𝓛.H 𝓜 𝓣) kind.Bool (is kind.Bool e) (BoolRow at) ((bool_laws at).lawful 𝓛).typed parts.Bool 1
+            (alone_made 𝓛 1 (BoolRow at)) (bool-thm.met 𝓤 𝓛 𝓜 𝓡 (code.calls-ijson_value::value::IValue::bool_part 𝓡.env wired))
+            ((κs, qs, tt, (r, tt), (vs, tt)), tt) (id⊢ 𝓤 _) (and_then ! (get ! refl) (no_more !)) (λ w. id⊢ 𝓤 _) (λ w part stands typed built.
+            lands_as ! refl refl typed.0 $ sets_last ! (agg ! (and_then ! (lit ! tt) (and_then ! (get ! refl) (no_more !)))) refl built.0 $
+            forget_but ! (env code.Mir.locals l) (4 ∷ []) refl $ leaves _ (parts.Bool part) built stands)),
+        (
+          (λ e. sets ! (addr ! (through ! refl (stop !))) refl (tt, tt) $
+              part_called 𝓛 ! κ q r (framed 𝓤 𝓛.H 𝓜 𝓣) kind.Number (is kind.Number e) (Ref NumberRow) ((mut_ref_laws at NumberRow tt).lawful 𝓛).typed parts.Number 2
+              (alone_made 𝓛 2 (Ref NumberRow)) (number-thm.met 𝓤 𝓛 𝓜 𝓡 (code.calls-ijson_value::value::IValue::number_part 𝓡.env wired))
+              ((κs, qs, tt, (r, tt), (vs, tt)), tt) (id⊢ 𝓤 _) (and_then ! (get ! refl) (no_more !)) (λ w. id⊢ 𝓤 _) (λ w part stands typed built.
+              lands_as ! refl refl typed.0 $ sets_last ! (agg ! (and_then ! (lit ! tt) (and_then ! (get ! refl) (no_more !)))) refl built.0 $
+              forget_but ! (env code.Mir.locals l) (4 ∷ []) refl $ leaves _ (parts.Number part) built stands)),
+          (
+            (λ e. sets ! (addr ! (through ! refl (stop !))) refl (tt, tt) $
+                part_called 𝓛 ! κ q r (framed 𝓤 𝓛.H 𝓜 𝓣) kind.String (is kind.String e) (Ref StringRow) ((mut_ref_laws at StringRow tt).lawful 𝓛).typed parts.String 3
+                (alone_made 𝓛 3 (Ref StringRow)) (string-thm.met 𝓤 𝓛 𝓜 𝓡 (code.calls-ijson_value::value::IValue::string_part 𝓡.env wired))
+                ((κs, qs, tt, (r, tt), (vs, tt)), tt) (id⊢ 𝓤 _) (and_then ! (get ! refl) (no_more !)) (λ w. id⊢ 𝓤 _) (λ w part stands typed built.
+                lands_as ! refl refl typed.0 $ sets_last ! (agg ! (and_then ! (lit ! tt) (and_then ! (get ! refl) (no_more !)))) refl built.0 $
+                forget_but ! (env code.Mir.locals l) (4 ∷ []) refl $ leaves _ (parts.String part) built stands)),
+            (
+              (λ e. sets ! (addr ! (through ! refl (stop !))) refl (tt, tt) $
+                  part_called 𝓛 ! κ q r (framed 𝓤 𝓛.H 𝓜 𝓣) kind.Array (is kind.Array e) (Ref ArrayRow) ((mut_ref_laws at ArrayRow tt).lawful 𝓛).typed parts.Array 4
+                  (alone_made 𝓛 4 (Ref ArrayRow)) (array-thm.met 𝓤 𝓛 𝓜 𝓡 (code.calls-ijson_value::value::IValue::array_part 𝓡.env wired))
+                  ((κs, qs, tt, (r, tt), (vs, tt)), tt) (id⊢ 𝓤 _) (and_then ! (get ! refl) (no_more !)) (λ w. id⊢ 𝓤 _) (λ w part stands typed built.
+                  lands_as ! refl refl typed.0 $ sets_last ! (agg ! (and_then ! (lit ! tt) (and_then ! (get ! refl) (no_more !)))) refl built.0 $
+                  forget_but ! (env code.Mir.locals l) (4 ∷ []) refl $ leaves _ (parts.Array part) built stands)),
+              (
+                (λ e. sets ! (addr ! (through ! refl (stop !))) refl (tt, tt) $
+                    part_called 𝓛 ! κ q r (framed 𝓤 𝓛.H 𝓜 𝓣) kind.Object (is kind.Object e) (Ref ObjectRow) ((mut_ref_laws at ObjectRow tt).lawful 𝓛).typed parts.Object 5
+                    (alone_made 𝓛 5 (Ref ObjectRow)) (object-thm.met 𝓤 𝓛 𝓜 𝓡 (code.calls-ijson_value::value::IValue::object_part 𝓡.env wired))
+                    ((κs, qs, tt, (r, tt), (vs, tt)), tt) (id⊢ 𝓤 _) (and_then ! (get ! refl) (no_more !)) (λ w. id⊢ 𝓤 _) (λ w part stands typed built.
+                    lands_as ! refl refl typed.0 $ sets_last ! (agg ! (and_then ! (lit ! tt) (and_then ! (get ! refl) (no_more !)))) refl built.0 $
+                    forget_but ! (env code.Mir.locals l) (4 ∷ []) refl $ leaves _ (parts.Object part) built stands)),
+                tt,
+              ),
+            ),
+          ),
+        ),
+      ),
     ))))))))))

@@ -1,5 +1,4 @@
-use Rattle.std.proofs.Common.{ap, sym, ◌∙◌}
-use Rattle.std.specs.Prelude.{option_map}
+use Rattle.std.proofs.Common.{sym, ◌∙◌}
 use Rattle.ijson_value.proofs.pairs.Entries.{key_got, swap_out_there}
 use Rattle.ijson_value.proofs.object.entry.OccupiedEntry.remove_entry.Goals as goal
 
@@ -7,9 +6,6 @@ pub returns-clause-key : goal.returns-clause-key
 returns-clause-key c =
     let o = c.args.self in
     sym (key_got o.object.now.pairs o.index c.swap_out.result c.swap_out.ensures.pair)
-
-pub returns-clause-value : goal.returns-clause-value
-returns-clause-value c = ap (option_map (λ pair. pair.1)) c.swap_out.ensures.pair
 
 pub returns-clause-removed : goal.returns-clause-removed
 returns-clause-removed c =

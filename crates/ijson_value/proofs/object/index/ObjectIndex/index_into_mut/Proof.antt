@@ -1,9 +1,9 @@
 -- The call on the object itself. Assumes `Logic`.
-use Rattle.ijson_value.proofs.lends.Steps.{◌≡◌, List, [], ◌∷◌, refl, MutBor, Bor, proved, id⊢, ftrue, flft, named, Val, fact, fact_i}
-use Rattle.ijson_value.proofs.lends.Steps.{emp, tables, ‵, raw, ◌⊛◌, some, later, ◌$◌, ◌∵◌, !, qed, done, move, keep, drop, use0, use1}
-use Rattle.ijson_value.proofs.lends.Steps.{use3, split, join, fjoin, pick, await, suffices, frame, enter, addr, stop, no_more, and_then}
-use Rattle.ijson_value.proofs.lends.Steps.{returns, alloc_all, pass_all, free_all, look_at, get, through, sets, lands_as, no, shows}
-use Rattle.ijson_value.proofs.lends.Steps.{RattleType, MutRef, mut_vals, mut_Tells, plain, mut_ref_to, nothing, heard, peeks}
+use Rattle.ijson_value.proofs.lends.Steps.{◌≡◌, List, [], ◌∷◌, refl, proved, id⊢, ftrue, flft, named, Val, fact, fact_i}
+use Rattle.ijson_value.proofs.lends.Steps.{emp, tables, ‵, raw, ◌⊛◌, ◌$◌, ◌∵◌, !, qed, done, move, keep, use0}
+use Rattle.ijson_value.proofs.lends.Steps.{use3, split, join, fjoin, suffices, frame, enter, addr, stop, no_more, and_then}
+use Rattle.ijson_value.proofs.lends.Steps.{returns, alloc_all, pass_all, free_all, look_at, get, through, sets, lands_as, no}
+use Rattle.ijson_value.proofs.lends.Steps.{RattleType, MutRef, mut_vals, mut_Tells, plain, mut_ref_to, nothing, heard}
 use Rattle.ijson_value.proofs.lends.Steps.{calls_at, lasts, triple_of}
 use Rattle.ijson_value.proofs.lends.Steps.{Stays, walk_of, says, stay_dropped, Goes-dropped, Goes-spent_ref, ends_at, framed}
 use mir.MapTy.{inst_fn}
@@ -11,14 +11,12 @@ use mir.Syntax.{a_type, dcons, dnil}
 use contract.BorrowLft.{◌⊑◌}
 use denote.Param.{bounded}
 use denote.Param.Laws.{copied_copy, copied_laws, IsCopy}
-use Rattle.std.specs.Prelude.{Option, option_map}
+use Rattle.std.specs.Prelude.{option_map}
 use Rattle.std.specs.Map.Iter.{deref_pair_mut}
 use Rattle.std.specs.contracts.option.Option.{the_row as OptionOf}
-use Rattle.ijson_string.specs.contracts.text.IString.{the_row as S}
 use Rattle.ijson_value.specs.AtKey.{pair_at_key}
 use Rattle.ijson_value.specs.LendsPair.{LendsPairIf}
 use Rattle.ijson_value.specs.contracts.object.map.IObject.{the_row as M}
-use Rattle.ijson_value.specs.contracts.value.IValue.{the_row as V}
 use Rattle.ijson_value.proofs.lends.Called.{answered}
 use Rattle.ijson_value.proofs.lends.LentLaws.{Pair, pair_found_laws}
 use Rattle.ijson_value.specs.contracts.object.index.ObjectIndex.index_into_mut as f

@@ -1,6 +1,6 @@
 use Rattle.std.proofs.Common.{◌≡◌, ◌<◌, ◌++◌, [], ◌∷◌, length, arith, rules, sym, ap, subst, ◌∙◌, Err}
 use Rattle.std.specs.Prelude.{◌↔◌, IfOk}
-use Rattle.std.proofs.lemmas.Result.{IfOk-weaker, IfOk-from_err}
+use Rattle.std.proofs.lemmas.Result.{IfOk-weaker}
 use Rattle.ijson_table.specs.Growth.{capacity_limit}
 use Rattle.ijson_table.specs.declared.store.ReserveError.TheVariants.{TooLarge}
 use Rattle.ijson_table.proofs.pairs.PutEach.{put_each-new}
@@ -19,12 +19,6 @@ push_reserved-requires g c =
       (c.loop-pair.pair-iterator, c.loop-pair.yielded_by, c.in-Some.ensures.steps),
     ) in
     omega (arith, more, ap length so_far.2, so_far.3, c.loop-pair.list.ok.0)
-
-pub returns-in_err-list-clause-pairs : goal.returns-in_err-list-clause-pairs
-returns-in_err-list-clause-pairs g c = IfOk-from_err c.from_residual.result _ c.from_residual.ensures.0
-
-pub returns-in_err-list-clause-capacity : goal.returns-in_err-list-clause-capacity
-returns-in_err-list-clause-capacity g c = IfOk-from_err c.from_residual.result _ c.from_residual.ensures.0
 
 pub loop-pair-preserved : goal.loop-pair-preserved
 loop-pair-preserved g c = (

@@ -1,7 +1,7 @@
 -- A map lends the value of a key, with the key. Assumes `Logic`.
-use Rattle.ijson_value.proofs.lends.Steps.{◌≡◌, ℕ, List, [], ◌∷◌, refl, sym, ap, subst, ◌∙◌, lit<, w64, MutBor, Bor, proved, full_share}
+use Rattle.ijson_value.proofs.lends.Steps.{◌≡◌, ℕ, List, [], ◌∷◌, refl, sym, ap, subst, ◌∙◌, lit<, w64, MutBor, proved, full_share}
 use Rattle.ijson_value.proofs.lends.Steps.{id⊢, Lft, ftrue, flft, fres, named, Val, fact, fact_i, emp, tables, ‵, raw, ◌⊛◌, some}
-use Rattle.ijson_value.proofs.lends.Steps.{later, at_ret, ◌$◌, ◌∵◌, !, qed, done, move, keep, drop, use0, use1, use2, use3, split, join}
+use Rattle.ijson_value.proofs.lends.Steps.{later, at_ret, ◌$◌, ◌∵◌, !, qed, done, move, keep, use0, use1, use2, use3, split, join}
 use Rattle.ijson_value.proofs.lends.Steps.{rewrite, fsplit, fsplit3, fjoin, pick, await, suffices, frame, enter, of_opd, lit, addr, fld}
 use Rattle.ijson_value.proofs.lends.Steps.{stop, no_more, and_then, first, exec, returns, alloc_all, pass_all, free_all, look_at, get}
 use Rattle.ijson_value.proofs.lends.Steps.{get_in, get_tag, through, sets, sets_last, lands_as, agg, env, usize, no, shows, uint_vals}
@@ -18,7 +18,6 @@ use Rattle.std.specs.Prelude.{Option, None, Some, IfSome, ◌<◌, length, optio
 use Rattle.std.specs.contracts.option.Option.{the_row as OptionOf}
 use Rattle.std.proofs.option.Made.{Some-of, none_of}
 use Rattle.ijson_value.specs.contracts.object.map.IObject.{the_row as M}
-use Rattle.ijson_string.specs.contracts.text.IString.{the_row as S}
 use Rattle.ijson_table.specs.Store.{at as place_of}
 use Rattle.ijson_value.specs.LendsAtKey.{with_key, with_found}
 use Rattle.ijson_value.specs.LendsPair.{LendsPairIf}

@@ -1,10 +1,10 @@
 -- The value derefs to its content, which lends. Assumes `Logic`.
 use Rattle.ijson_value.proofs.lends.Steps.{◌≡◌, List, [], ◌∷◌, refl, sym, ap, ◌∙◌, MutBor, proved, id⊢, ftrue, flft, named, Val, fact}
-use Rattle.ijson_value.proofs.lends.Steps.{fact_i, emp, tables, ‵, raw, ◌⊛◌, some, later, ◌$◌, ◌∵◌, !, qed, done, move, keep, drop, use0}
-use Rattle.ijson_value.proofs.lends.Steps.{use1, use2, use3, split, join, rewrite, fjoin, pick, await, suffices, frame, enter, addr, stop}
+use Rattle.ijson_value.proofs.lends.Steps.{fact_i, emp, tables, ‵, raw, ◌⊛◌, ◌$◌, ◌∵◌, !, qed, done, move, keep, use0}
+use Rattle.ijson_value.proofs.lends.Steps.{use2, use3, split, join, rewrite, fjoin, suffices, frame, enter, addr, stop}
 use Rattle.ijson_value.proofs.lends.Steps.{no_more, and_then, returns, alloc_all, pass_all, free_all, look_at, get, through, sets, lands_as}
-use Rattle.ijson_value.proofs.lends.Steps.{no, shows, RattleType, MutRef, mut_vals, mut_Tells, plain, mut_ref_to, nothing, heard}
-use Rattle.ijson_value.proofs.lends.Steps.{peeks, only, calls_at}
+use Rattle.ijson_value.proofs.lends.Steps.{no, RattleType, MutRef, mut_vals, mut_Tells, plain, mut_ref_to, nothing, heard}
+use Rattle.ijson_value.proofs.lends.Steps.{only, calls_at}
 use Rattle.ijson_value.proofs.lends.Steps.{lasts, triple_of, Stays, walk_of, says, stay_dropped, Goes-dropped, Goes-spent_ref, ends_at}
 use Rattle.ijson_value.proofs.lends.Steps.{framed, follows}
 use mir.MapTy.{inst_fn}
