@@ -44,8 +44,8 @@ pub enum Unresolved {
 ///
 /// # Cost
 ///
-/// That of `resolve`, plus one more pass over the pointer. It does not allocate. The stack grows with each
-/// token that leads to a value.
+/// That of `resolve`, plus up to two more passes over the pointer. It does not allocate. The stack grows with each token that leads to a
+/// value.
 pub fn resolve_mut<'a>(
     value: &'a mut IValue,
     pointer: &str,

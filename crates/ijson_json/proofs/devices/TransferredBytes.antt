@@ -1,7 +1,7 @@
 -- The known bytes of a device after several transfers.
 use Rattle.std.proofs.lemmas.List.{take_rest}
 use Rattle.std.proofs.Common.{subst, arith, take, drop, length, ◌+◌, ◌<◌}
-use Rattle.std.proofs.Common.{◌≢◌, take-append-drop, length-drop, take-add, ◌-◌, ◌≡◌, ◌∙◌, ap, sym, refl, ℕ, List, [], ◌++◌, Some, None}
+use Rattle.std.proofs.Common.{take-append-drop, length-drop, take-add, ◌-◌, ◌≡◌, ◌∙◌, ap, sym, refl, ℕ, List, [], ◌++◌, Some, None}
 use Rattle.std.specs.Prelude.{Option}
 use Rattle.std.specs.Option.{IfSome}
 use Rattle.std.specs.Io.KnownBytes.{Appends, Consumes, Keeps}
@@ -20,19 +20,13 @@ pub appends_rest : (a b c : Option (List ℕ)) (i n : ℕ) (xs : List ℕ) → A
 appends_rest a b c i n xs p q =
     subst (Appends a c) (ap (λ l. take i xs ++ take n l) (take_rest xs i) ∙ sym (take-add i n xs)) (Appends-trans a b c _ _ p q)
 
--- a list longer than i has elements after the first i
-some_left : (i : ℕ) (xs : List ℕ) → i < length xs → drop i xs ≢ []
-some_left i xs below none =
-    let empty : length (drop i xs) ≡ 0 = ap length none in
-    omega (arith, below, sym (length-drop i xs) ∙ empty)
-
 -- a beginning was written, but not all, if a fault followed it
 pub begun : (a b c : Option (List ℕ)) (i : ℕ) (xs : List ℕ) → i < length xs → Appends a b (take i xs) → Keeps b c → WritesBeginning a c xs
 begun a b c i xs below p same = record {
   front = take i xs;
   rest = drop i xs;
   is = sym (take-append-drop i xs);
-  unfinished = some_left i xs below;
+  unfinished = λ none. let empty : length (drop i xs) ≡ 0 = ap length none in omega (arith, below, sym (length-drop i xs) ∙ empty);
   taken = Appends-kept a b c _ p same;
 }
 

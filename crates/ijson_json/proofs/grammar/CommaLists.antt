@@ -39,10 +39,6 @@ pub Ends-any : (t : Tree) (x : List ℕ) → Stops x → Ends t x
 Ends-any (number n) x h = h
 Ends-any t x h = tt
 
--- white space around a value, and the text after both
-pub regroup : (before value after text : List ℕ) → (before ++ (value ++ after)) ++ text ≡ before ++ (value ++ (after ++ text))
-regroup before value after text = simp append_assoc
-
 module _ (E : Type 0) (S : Shape E) where
   -- the text after an element: the bracket and then x, or `,` and the other elements, the bracket and then x
   abbrev pub Left : List E → List ℕ → List ℕ → Type 0
@@ -67,7 +63,7 @@ module _ (E : Type 0) (S : Shape E) where
     value ++ (after ++ S.closing ∷ x),
     s,
     record { value = value; after = after; tail = S.closing ∷ x; holds = v; space_after = sa; left = refl; is = refl },
-    ap (λ (l : List ℕ). l ++ S.closing ∷ x) t ∙ regroup before value after (S.closing ∷ x),
+    ap (λ (l : List ℕ). l ++ S.closing ∷ x) t ∙ simp append_assoc,
   )
   at_first e (f ∷ more) text x (first, others, (before, value, after, s, v, sa, t), o, u) =
       let tail : List ℕ = 44 ∷ (others ++ S.closing ∷ x) in (

@@ -6,14 +6,14 @@ use Rattle.std.proofs.lemmas.List.{append-nil, length-append}
 use Rattle.ijson_value.specs.Tree.{Tree}
 use Rattle.ijson_json.specs.Ranged.{is_ranged}
 use Rattle.ijson_json.specs.Limits.{max_depth}
-use Rattle.ijson_json.specs.private.Reading.{IsBeyond, NoValue}
+use Rattle.ijson_json.specs.private.Reading.{IsBeyond}
 use Rattle.ijson_json.specs.private.Explains.{Explains, ExplainsOf}
 use Rattle.ijson_json.specs.private.Delimiters.{NoDelimiter}
 use Rattle.ijson_json.specs.declared.fault.Fault.{Fault}
 use Rattle.ijson_json.specs.declared.fault.Fault.TheVariants as faults
 use Rattle.ijson_json.proofs.scanning.Prefixes.{all-append, front_shorter, skips_shorter}
 use Rattle.ijson_json.proofs.grammar.CommaLists.{Shape, at-Stops}
-use Rattle.ijson_json.proofs.reading.ElementLists.{all_ranged, deepest-append, ranged-append, ElementRead, NoElement}
+use Rattle.ijson_json.proofs.reading.ElementLists.{all_ranged, deepest-append, ranged-append, ElementRead}
 use Rattle.ijson_json.proofs.reading.ElementLists.{ElementBeyond}
 use Rattle.ijson_json.proofs.reading.Elements.{Listing, Reached, reached_stuck}
 
@@ -40,13 +40,6 @@ module _ (E : Type 0) (S : Shape E) (L : Listing E S) where
 
 module _ {E : Type 0} {S : Shape E} {L : Listing E S} {opened : ℕ} {text cur : List ℕ} {found : List E}
     (r : Reached E S L opened text found cur) where
-  -- there is no element at a position that needs one
-  reached_no_value : NoElement E S cur → NoValue text
-  reached_no_value none t x stops f =
-      let o = r.only t x f in
-      none o.next (o.at.after ++ o.at.tail) (at-Stops E S o.next o.more cur x o.at)
-      (record { front = o.at.value; holds = o.at.holds; is = o.at.is })
-
   -- a fault of an element beyond a limit is one of the whole
   reached_beyond : (Bad Worst Bad' Worst' : Tree → Type 0)
       → ((u : E) (more : List E) → Bad (S.inner u) → Bad' (L.wrap (found ++ u ∷ more)))
@@ -78,7 +71,13 @@ module _ {E : Type 0} {S : Shape E} {L : Listing E S} {opened : ℕ} {text cur :
   -- a fault in an element is one of the whole
   pub element_fault : (fault : Fault) → ExplainsOf E (λ e text. S.Is e text) (λ e. S.inner e) (opened + 1) cur fault
       → Explains opened text fault
-  element_fault (faults.Syntax left) h = (reached_shorter left h.0, reached_no_value h.1)
+  element_fault (faults.Syntax left) h = (
+    reached_shorter left h.0,
+    λ t x stops f.
+        let o = r.only t x f in
+        h.1 o.next (o.at.after ++ o.at.tail) (at-Stops E S o.next o.more cur x o.at)
+        (record { front = o.at.value; holds = o.at.holds; is = o.at.is }),
+  )
   element_fault (faults.TooDeep left) h = (
     reached_shorter left h.0,
     reached_beyond _ _ _ _

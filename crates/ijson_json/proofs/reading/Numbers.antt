@@ -50,11 +50,6 @@ no_number text run rest e r s h n other a = h (n, number_is_run text run rest n 
 pub past_limit : (text : List ℕ) → (n : Decimal) × Spells text n → ((n : Decimal) → Spells text n → IsNum n → ⊥) → IsPastLimit text
 past_limit text (n, v) h = (n, v, false_from_ne_true _ (λ e. h n v (record { plain = v.2.0.plain; in_range = e })))
 
--- a text that spells a Num spells nothing beyond the limit
-pub not_past_limit : (text : List ℕ) (n : Decimal) → Spells text n → IsNum n → IsPastLimit text → ⊥
-not_past_limit text n v h (m, w, past) = not_both (is_in_range m)
-    (subst (λ (k : Decimal). is_in_range k ≡ true) (spells_one text n m v w) h.in_range) past
-
 -- the leading number is beyond the limit if the run spells one that is not a Num
 pub run_past_limit : (text run rest : List ℕ) → text ≡ run ++ rest → Run is_number_byte run → Stops rest → (n : Decimal) × Spells run n
     → ((n : Decimal) → Spells run n → IsNum n → ⊥)
@@ -89,7 +84,11 @@ front_range run at = grind arith
 
 -- the result if the text spells a Num
 pub answer_within : (text : List ℕ) (b : Bool) (n : Decimal) → b ≡ false → Spells text n → IsNum n → IsTrue b ↔ IsPastLimit text
-answer_within text b n e v h = (λ t. absurd (not_both b t e), λ p. absurd (not_past_limit text n v h p))
+answer_within text b n e v h = (
+  λ t. absurd (not_both b t e),
+  λ p. absurd (not_both (is_in_range p.0)
+      (subst (λ (k : Decimal). is_in_range k ≡ true) (spells_one text n p.0 v p.1) h.in_range) p.2),
+)
 
 -- the result if the text spells no Num
 pub answer_refused : (text : List ℕ) (b : Bool) → (b ≡ true → (n : Decimal) × Spells text n) → ((n : Decimal) × Spells text n → b ≡ true)

@@ -7,12 +7,6 @@ use Rattle.ijson_number.specs.Grammar.{Parts}
 use Rattle.ijson_json.specs.private.OnePass.{HasNoShort}
 use Rattle.ijson_json.specs.private.Reading.{Stops}
 
--- the rest after `n` bytes
-left_after : (front rest text : List ℕ) (n : ℕ) → text ≡ front ++ rest → n + length rest ≡ length text → drop n text ≡ rest
-left_after front rest text n is at =
-    let count : n ≡ length front = omega (arith, at, ap length is, length-append front rest) in
-    ap (λ k. drop k text) count ∙ ap (drop (length front)) is ∙ drop-append_seam front rest
-
 -- If the single pass ends before a byte of a number, the text begins with no number of that form.
 pub no_short : (text : List ℕ) (n : ℕ)
     → ((p : Parts) (rest : List ℕ) → IsCommonFront text p rest → n + length rest ≡ length text)
@@ -21,4 +15,6 @@ pub no_short : (text : List ℕ) (n : ℕ)
 no_short text n common continues_token p rest f stops =
     let front : List ℕ = f.minus_text ++ (p.whole ++ (f.fraction_text ++ f.tail.exponent_text)) in
     let is : text ≡ front ++ rest = rw f.tail.text_is at f.text_is ∙ simp append_assoc in
-    continues_token (subst Stops (sym (left_after front rest text n is (common p rest f))) stops)
+    let count : n ≡ length front = omega (arith, common p rest f, ap length is, length-append front rest) in
+    let left : drop n text ≡ rest = ap (λ k. drop k text) count ∙ ap (drop (length front)) is ∙ drop-append_seam front rest in
+    continues_token (subst Stops (sym left) stops)

@@ -130,11 +130,6 @@ pub string_found : (text inside s t rest : List ℕ) → text ≡ 34 ∷ inside 
 string_found text inside s t rest e (body, h, f) same =
     record { front = 34 ∷ (body ++ 34 ∷ []); holds = (body, rw same h, refl); is = rw (e, f) (simp append_assoc) }
 
--- a text that does not begin with a quote begins with no string
-pub no_quote : (text : List ℕ) → ((inside : List ℕ) → text ≢ 34 ∷ inside) → (s rest : List ℕ)
-    → Front (λ front. IsString s front) text rest → ⊥
-no_quote text q s rest f = q _ (string_first text s rest f)
-
 -- a fault in the content is one of the string
 pub no_string : (text inside : List ℕ) → text ≡ 34 ∷ inside → (fault : Fault) → ContentFault inside fault → StringFault text fault
 no_string text inside e (faults.Syntax left) h = (

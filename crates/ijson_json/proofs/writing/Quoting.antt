@@ -36,10 +36,6 @@ pub nothing_left : (after : List ℕ) → Past is_unescaped after → Past (λ b
 nothing_left [] p q = refl
 nothing_left (b ∷ more) p q = absurd (grind (arith, nat_tests, special_ascii b p, q))
 
--- the byte that ends a run needs an escape
-pub special_first : (after rest : List ℕ) (b : ℕ) → Past is_unescaped after → after ≡ b ∷ rest → is_unescaped b ≡ false
-special_first after rest b p e = rw e at p
-
 -- the clause of a last call that appends
 pub on_ok : {A E : Type 0} (r : Result A E) (new longer same want : List ℕ) → new ≡ (if is_ok r then longer else same) → longer ≡ want
     → OnOk r (new ≡ want)

@@ -6,7 +6,7 @@ use Rattle.std.proofs.lemmas.Str.{IsCharBoundary-start}
 use Rattle.ijson_number.proofs.AnyAnswer.{where_refused}
 use Rattle.ijson_json.proofs.scanning.CharBoundaries.{behind_byte}
 use Rattle.ijson_json.proofs.writing.Quoting.{escaping_run, escaping_byte, escaping_end, escaping_begun, escaping_begun_escape}
-use Rattle.ijson_json.proofs.writing.Quoting.{nothing_left, special_first, on_ok, on_refused}
+use Rattle.ijson_json.proofs.writing.Quoting.{nothing_left, on_ok, on_refused}
 use Rattle.ijson_json.proofs.write.quote.push_escaped.Goals as goal
 
 pub loop-byte-init : goal.loop-byte-init
@@ -41,8 +41,7 @@ returns-in_err-push_escape-clause-refused c =
     c.in-Some.field-0-1.now c.in-Some.ensures.cases c.in_err-push_escape.ensures.refused)
 
 pub push_escape-requires : goal.push_escape-requires
-push_escape-requires c =
-    special_first c.split_run.result.1.now c.in-Some.field-0-1.now c.in-Some.byte c.split_run.ensures.stops c.in-Some.ensures.cases
+push_escape-requires c = rw c.in-Some.ensures.cases at c.split_run.ensures.stops
 
 -- the rest after a run and the byte that ends it
 rest_after : (text run after rest : List ℕ) (b start : ℕ) → drop start text ≡ run ++ after → after ≡ b ∷ rest
