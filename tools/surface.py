@@ -17,6 +17,9 @@ TYPE = re.compile(r"^pub (struct|enum|trait|type) (\w+)")
 CONSTANT = re.compile(r"^( *)pub const (\w+): ([^=]+?) =")
 ENDS = re.compile(r"^ +(?:requires|ensures|decreases|ghost)\b|^\s*(?:where\b|\}|//)")
 
+# A piece of code in a page.
+CODE = re.compile(r"`([^`]+)`")
+
 # Traits without a promise of their own: models and markers.
 SKIPPED = ("Model for ", "Eq for ", "FusedIterator for ")
 
