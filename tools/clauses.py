@@ -11,22 +11,9 @@ CLAUSE = re.compile(r"(requires|ensures\*?)( \w+)? \{(.*?)\}(?= (?:requires|ensu
 LAWS = ("laws", "total", "matches_eq", "matches_partial_cmp", "respects_eq", "is_infallible")
 
 
-def in_one_line(lines):
-    return re.sub(r"\s+", " ", " ".join(line for line in lines if not line.strip().startswith("//"))).strip()
-
-
-def head_from(lines, at):
-    """The head of a function as one line: its signature and its clauses, up to the body."""
-    indent = len(lines[at]) - len(lines[at].lstrip())
-    end = at + 1
-    while end < len(lines) and not re.match(rf"\s{{0,{indent}}}(\{{|\}}|///|#\[|(pub |final )?fn )", lines[end]):
-        end += 1
-    return in_one_line(lines[at:end])
-
-
 def clauses_of(call):
     """(kind, name, text) of each clause of a call: its `requires` and its `ensures`, with a star or without."""
-    return [(kind, name.strip(), text.strip()) for kind, name, text in CLAUSE.findall(head_from(call.lines, call.at))]
+    return [(kind, name.strip(), text.strip()) for kind, name, text in CLAUSE.findall(surface.head_from(call.lines, call.at))]
 
 
 def ghosts_of(lines):
@@ -40,7 +27,7 @@ def ghosts_of(lines):
             end = at
             while not lines[end].rstrip().endswith("};"):
                 end += 1
-            yield first, head, ghost.group(1), re.sub(r"^ghost \w+ = \{ ?|\ ?};$", "", in_one_line(lines[at:end + 1]))
+            yield first, head, ghost.group(1), re.sub(r"^ghost \w+ = \{ ?|\ ?};$", "", surface.in_one_line(lines[at:end + 1]))
 
 
 WRAPPERS = ("IfOk", "IfErr", "IfSome", "OnOk", "OnErr", "sem")

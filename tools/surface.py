@@ -15,7 +15,10 @@ FUNCTION = re.compile(r"^( *)(pub )?(?:final )?fn (\w+)")
 GHOST = re.compile(r"^    ghost (\w+)(?: =|:)")
 TYPE = re.compile(r"^pub (struct|enum|trait|type) (\w+)")
 CONSTANT = re.compile(r"^( *)pub const (\w+): ([^=]+?) =")
-ENDS = re.compile(r"^ +(?:requires|ensures|decreases|ghost)\b|^\s*(?:where\b|\}|//)")
+ENDS = re.compile(r" (?:requires|ensures\*?|decreases|where)\b| \{|;(?= ghost\b|$)")
+
+# A piece of code in a page.
+CODE = re.compile(r"`([^`]+)`")
 
 # Traits without a promise of their own: models and markers.
 SKIPPED = ("Model for ", "Eq for ", "FusedIterator for ")
@@ -134,19 +137,25 @@ def doc_above(lines, at):
     return " ".join(above(lines, at, "///"))
 
 
-def signature_at(lines, at):
-    """A function's head as one line: up to its body or its first clause."""
-    parts = []
-    for line in lines[at:]:
-        if parts and ENDS.match(line):
-            break
-        parts.append(line.strip().removeprefix("final "))
-        if line.rstrip().endswith(("{", ";")):
-            break
-    text = re.sub(r"([(<]) ", r"\1", " ".join(parts)).replace(", )", ")")
+def in_one_line(lines):
+    """Lines as one, without comments."""
+    return " ".join(word for line in lines if not line.strip().startswith("//") for word in line.split())
+
+
+def head_from(lines, at):
+    """The head of a function as one line: its signature and its clauses, up to the body."""
+    indent = len(lines[at]) - len(lines[at].lstrip())
+    end = at + 1
+    while end < len(lines) and not re.match(rf"\s{{0,{indent}}}(\{{|\}}|///|#\[|(pub |final )?fn )", lines[end]):
+        end += 1
+    return in_one_line(lines[at:end])
+
+
+def signature_of(head):
+    """The signature in a function's head."""
+    text = re.sub(r"([(<]) ", r"\1", ENDS.split(head)[0]).removeprefix("final ").replace(", )", ")")
     # `mut` of a parameter does not concern callers
-    text = re.sub(r"([(,] ?)mut (\w+:)", r"\1\2", text)
-    return re.sub(r"\s*[{;]$", "", text)
+    return re.sub(r"([(,] ?)mut (\w+:)", r"\1\2", text)
 
 
 def is_outermost(line):
@@ -183,7 +192,7 @@ def members_in(crate, path, public):
             indent, is_public, name = function.groups()
             free = not indent and not owner and name in public
             if free or (owner and indent == "    " and (is_public or header)):
-                yield Call(crate, path, owner, name, signature_at(lines, at), doc_above(lines, at), header, lines, first, at)
+                yield Call(crate, path, owner, name, signature_of(head_from(lines, at)), doc_above(lines, at), header, lines, first, at)
         elif ghost and header:
             yield Call(crate, path, owner, ghost.group(1), None, "", header, lines, first, at)
 
