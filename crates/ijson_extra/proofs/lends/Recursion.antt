@@ -27,7 +27,6 @@ use denote.Triple.Entry.{on_entry}
 use denote.Triple.Spec.{Meets, triple_of}
 use denote.Triple.Statement.{Contract}
 use denote.Triple.Walked.{Stays, AllGo, walk_of, walked_at, walk_meets_at}
-use Rattle.std.proofs.Common.{◌-◌}
 use Rattle.ijson_value.proofs.lends.LentOn.{then_such}
 
 module _ {M : Type 1} {𝓤 : Ura M} (𝓛 : Logic 𝓤) (T : Ended) (hs : Stays T.signature.params T.kept) (c : Clauses 𝓤 T) where

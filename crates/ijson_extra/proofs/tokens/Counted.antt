@@ -1,5 +1,5 @@
 -- The tokens of a text one by one.
-use Rattle.std.proofs.Common.{◌≡◌, ℕ, ◌+◌, ◌<◌, List, [], ◌∷◌, ◌++◌, Option, Some, None, refl, sym, ap, ◌∙◌, arith, length, is_some}
+use Rattle.std.proofs.Common.{◌≡◌, ℕ, ◌<◌, List, [], ◌∷◌, ◌++◌, Option, Some, None, refl, sym, ap, ◌∙◌, arith, length, is_some}
 use Rattle.std.specs.Prelude.{◌&&◌, get_or, option_map, option_and_then}
 use Rattle.std.proofs.lemmas.List.{length-append}
 use Rattle.ijson_extra.specs.Pointer.{meant, all_meant, written_tokens}

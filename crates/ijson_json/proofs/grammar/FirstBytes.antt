@@ -1,6 +1,6 @@
 -- The first byte of a value determines its kind, numbered by the order of kinds.
 use Rattle.std.proofs.Common.{◌≡◌, ℕ, ◌≤◌, Bool, true, false, cond, List, ◌∷◌, ◌++◌, eqb, refl, sym, ap, ◌∙◌, arith}
-use Rattle.std.specs.Prelude.{IsTrue, ◌||◌, ◌==◌}
+use Rattle.std.specs.Prelude.{◌||◌, ◌==◌}
 use Rattle.std.proofs.lemmas.Bool.{ne_eqb}
 use Rattle.std.proofs.lemmas.Bool.Decides.{nat_tests}
 use Rattle.ijson_number.specs.NumberBytes.{is_digit}
@@ -16,10 +16,6 @@ abbrev pub kind : ℕ → ℕ
 kind b = cond (b == 110) 0 (cond (b == 116) 1 (cond (b == 102) 1
     (cond (b == 91) 4 (cond (b == 34) 3 (cond (b == 123) 5 (cond (is_digit b || (b == 45)) 2 6))))))
 
--- a digit and `-` begin a number
-pub number_kind : (b : ℕ) → IsTrue (is_digit b || (b == 45)) → kind b ≡ 2
-number_kind b h = grind (arith, nat_tests)
-
 -- `true` and `false` begin with bytes of one kind
 boolean_first : (b : Bool) → (c : ℕ) × (more : List ℕ) × (kind c ≡ 1) × (boolean_text b ≡ c ∷ more)
 boolean_first true = (_, _, refl, refl)
@@ -29,7 +25,7 @@ boolean_first false = (_, _, refl, refl)
 pub value_first : (t : Tree) (text : List ℕ) → IsValue t text → (b : ℕ) × (more : List ℕ) × (kind b ≡ rank t) × (text ≡ b ∷ more)
 value_first null text v = (_, _, refl, v)
 value_first (boolean b) text v = let (c, more, k, e) = boolean_first b in (c, more, k, v ∙ e)
-value_first (number n) text v = let (b, more, d, e) = spells_first text n v in (b, more, number_kind b d, e)
+value_first (number n) text v = let (b, more, d, e) = spells_first text n v in (b, more, grind (arith, nat_tests), e)
 value_first (string s) text (inside, v, e) = (34, _, refl, e)
 value_first (array is) text (inside, v, e) = (91, _, refl, e)
 value_first (object ms) text (inside, v, e) = (123, _, refl, e)
