@@ -89,3 +89,9 @@ module _ {M : Type 1} {𝓤 : Ura M} (𝓛 : Logic 𝓤) (R T : RattleType) (F :
   pub if_none : ent 𝓤 (sem 𝓛 (follows_if R T γ none F v)) (sem 𝓛 (fres γ (R.coded.code v)))
   unfolding follows_by
   if_none = qed 𝓛 (‵ (follows_if R T γ none F v) ∷ []) ∵ done !
+
+  pub if_some : (δ : GName) (w : T.Denot) → ent 𝓤 (sep 𝓤 (sem 𝓛 (follows_if R T γ (some δ) F v)) (sem 𝓛 (fres δ (T.coded.code w))))
+      (sem 𝓛 (fres γ (R.coded.code (F w))))
+  unfolding follows_by
+  if_some δ w = qed 𝓛 (‵ (follows_if R T γ (some δ) F v) ∷ ‵ (fres δ (T.coded.code w)) ∷ []) ∵
+      use2 𝓛 (‵ (fres γ (R.coded.code (F w)))) (followed 𝓛 R T F γ δ w) $ done !
