@@ -1,8 +1,7 @@
-use Rattle.std.proofs.Common.{arith, ◌++◌, List, [], ◌∷◌, ◌∙◌, ap, sym, subst, refl}
+use Rattle.std.proofs.Common.{◌++◌, List, [], ◌∷◌, ◌∙◌, ap, sym, subst, refl}
 use Rattle.std.specs.Prelude.{Option, Some}
 use Rattle.std.specs.Iterator.{Yields}
 use Rattle.std.proofs.Math.Nat.{le_refl, le_trans}
-use Rattle.std.proofs.lemmas.Grind.{common_steps}
 use Rattle.std.proofs.lemmas.List.{append_assoc, append-nil}
 use Rattle.std.proofs.lemmas.Result.{err_from_is_err_and}
 use Rattle.ijson_value.proofs.array.IArray.extend.Goals as goal
@@ -50,8 +49,3 @@ returns-in_err-push-in-Some-clause-items g c =
       refused.1 ∙ run.4,
       rw (p.1, p.2, refused.0) (run.0, c.next_of.new.rest, run.2, (c.items.rest, run.3, c.in-Some.ensures.gives)),
     )
-
-pub returns-in_err-push-in-Some-clause-room : goal.returns-in_err-push-in-Some-clause-room
-returns-in_err-push-in-Some-clause-room g c =
-    let p = err_from_is_err_and c.from_residual.result c.from_residual.ensures.1 in
-    rw p.1 (grind (arith, common_steps))
