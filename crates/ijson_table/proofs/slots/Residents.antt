@@ -1,5 +1,5 @@
 -- Residents of slots.
-use Rattle.std.proofs.Common.{◌≡◌, ◌≢◌, ℕ, suc, ◌+◌, ◌<◌, ◌≤◌, arith, List, [], ◌∷◌, length, set, take, drop, zero, Option, Some, None}
+use Rattle.std.proofs.Common.{◌≡◌, ◌≢◌, ℕ, suc, ◌+◌, ◌<◌, ◌≤◌, arith, List, [], ◌∷◌, length, set, take, zero, Option, Some, None}
 use Rattle.std.proofs.Common.{inl, inr, refl, sym, ap, ◌∙◌, get_or-set_other}
 use Rattle.std.proofs.lemmas.List.{length-set}
 use Rattle.std.proofs.lemmas.Bool.{cases_eq, cases_lt}
@@ -71,13 +71,6 @@ stands_once i slots p q h lp lq ep eq = elim (cases_eq q p) [
 pub times-nil : (i : ℕ) → times i [] ≡ 0
 unfolding times
 times-nil i = refl
-
--- each index is in the first slots or in the rest
-pub times-split : (i : ℕ) (slots : List (Option ℕ)) (n : ℕ) → times i (take n slots) + times i (drop n slots) ≡ times i slots
-unfolding times
-times-split i slots zero = omega arith
-times-split i [] (suc n) = refl
-times-split i (o ∷ slots) (suc n) = omega (arith, times-cons i o (take n slots), times-cons i o slots, times-split i slots n)
 
 -- in one slot more
 pub times-more : (i : ℕ) (slots : List (Option ℕ)) (n : ℕ) → n < length slots

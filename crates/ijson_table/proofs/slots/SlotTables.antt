@@ -1,5 +1,5 @@
 -- Slots that are a table of hashes, and one more index in them.
-use Rattle.std.proofs.Common.{◌≡◌, ℕ, ◌+◌, ◌<◌, ◌^◌, arith, List, [], ◌∷◌, ◌++◌, length, take, drop, get_or, Option, Some, None, refl}
+use Rattle.std.proofs.Common.{◌≡◌, ℕ, ◌+◌, ◌<◌, ◌^◌, arith, List, [], ◌∷◌, ◌++◌, length, get_or, Option, Some, None, refl}
 use Rattle.std.proofs.Common.{sym, ap, subst, ◌∙◌, length-append}
 use Rattle.std.specs.List.{All}
 use Rattle.std.proofs.lemmas.Bool.Decides.{nat_tests}
@@ -17,16 +17,6 @@ use Rattle.ijson_table.proofs.shifting.Insertion.{some_empty}
 use Rattle.ijson_table.proofs.shifting.Removal.{empty_is_table, ordered-as}
 use Rattle.ijson_table.proofs.slots.Residents.{times-some}
 use Rattle.ijson_table.proofs.probing.ProbePath.{in_list}
-
--- a list that replaces all of another is the list
-whole-all : (new old : List Slot) → length new ≡ length old → take (length new) (new ++ drop (length new) old) ≡ new
-whole-all [] old e = refl
-whole-all (x ∷ xs) [] e = absurd (omega arith)
-whole-all (x ∷ xs) (y ∷ ys) e = ap (λ zs. x ∷ zs) (whole-all xs ys (omega arith))
-
--- a slice that was lent as a whole
-pub whole : (n : ℕ) (new old : List Slot) → length new ≡ length old → n ≡ length old → take n (new ++ drop (length new) old) ≡ new
-whole n new old e is = ap (λ k. take k (new ++ drop (length new) old)) (is ∙ sym e) ∙ whole-all new old e
 
 -- empty slots are a table of no hashes
 pub empty_table : (slots : List Slot) → All (λ slot. position_in slot ≡ None) slots → IsTableOf [] slots

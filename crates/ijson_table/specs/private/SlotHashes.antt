@@ -19,7 +19,7 @@ position_in slot = coded_position slot.code
 abbrev pub positions : List Slot → List (Option ℕ)
 positions slots = map position_in slots
 
--- the hash is the part, kept among n slots, of that of the key of the index in the slot
+-- a slot with an index has the part of the hash of the key at that index which a table of n slots keeps
 abbrev pub HasHash : ℕ → List ℕ → Slot → Type 0
 HasHash n hashes slot = (i : ℕ) → position_in slot ≡ Some i → slot.hash ≡ kept n (get_or hashes i 0)
 
