@@ -4,8 +4,7 @@
 //! distinct keys, equal to another in any order of its entries. `json::from_json` reads JSON and `json::to_json` writes it. Every function
 //! that allocates can return an error instead. This crate re-exports the modules of the library.
 //!
-//! The tests are in `src/tests`, for arrays, values, conversions, literals and errors, and in `src/examples`, small programs with contracts
-//! of their own.
+//! The tests are in `src/tests`, for conversions, literals and errors, and in `src/examples`, small programs with contracts of their own.
 #![tactic(auto)]
 
 pub mod json;

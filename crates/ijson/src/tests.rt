@@ -1,17 +1,13 @@
-//! Tests beyond the clauses: arrays, values, conversions, literals and errors, and failed allocations of conversions and literals.
-//!
-//! `ijson_extra` tests objects and other failed allocations.
+//! Tests beyond the clauses: conversions, literals and errors, and failed allocations of conversions and literals.
 //!
 //! A test calls `drop` when it is done with a value, which is one step of the proof. At the end of a scope, the proof has a case for each
 //! kind of the value.
 
-mod arrays;
 mod conversions;
 mod errors;
 mod literals;
 mod refusals;
 mod serde;
-mod values;
 
 use crate::examples::{Cache, empty_cache, is_written, parsed};
 use crate::string::IString;
@@ -22,11 +18,6 @@ use std::process::Abort;
 /// Returns a string, interned in a cache of its own.
 fn key(rt: &impl Abort, alloc: Global, letters: &str) -> IString {
     IString::intern(&mut empty_cache(alloc), letters).expect(rt, "a text")
-}
-
-/// Replaces a value. The old one is dropped here, whatever its type.
-fn set<T: Drop>(place: &mut T, value: T) {
-    *place = value;
 }
 
 /// Asserts the debug output of a value.

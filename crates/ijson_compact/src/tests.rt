@@ -1,8 +1,7 @@
 //! Tests of the crates below the program beyond their clauses: whole values, the words that values feed a hasher, the text written for each
 //! text read, error positions, and devices that move few bytes and fail.
 //!
-//! `ijson_extra` tests tables, objects and failed allocations; `ijson` tests numbers, strings and their cache, arrays, values and error
-//! messages; both test the crates above these.
+//! `ijson` tests error messages, `ijson_extra` failed allocations.
 
 mod cache;
 mod devices;

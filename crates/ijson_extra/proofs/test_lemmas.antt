@@ -1,4 +1,3 @@
-pub mod Kept
 pub mod LentPart
 pub mod PutInside
 pub mod TurnedParts

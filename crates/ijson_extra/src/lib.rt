@@ -1,6 +1,6 @@
 //! Functions over values that use only the public contracts of the other crates: canonical text and JSON Pointer.
 //!
-//! `src/tests` also has the tests of objects and of failed allocations of the crates below, except those of tables.
+//! `src/tests` also has the tests of failed allocations of numbers, strings and JSON text.
 #![tactic(auto)]
 
 pub mod canonical;

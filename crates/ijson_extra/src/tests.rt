@@ -1,4 +1,4 @@
-//! Tests of objects, canonical text and pointers beyond their clauses, and of failed allocations in this crate and those below.
+//! Tests of canonical text and pointers beyond their clauses, and of failed allocations of numbers, strings, JSON text and this crate.
 
 /// The result of a call, which is repeated if an allocation fails.
 ///
@@ -22,18 +22,14 @@ macro_rules! granted {
 }
 
 mod canonical;
-mod given_back;
 mod lent;
-mod objects;
 mod pointer;
 mod refusals;
 
 use ijson_json::{JsonError, from_json, to_json};
 use ijson_string::{IString, StringCache};
-use ijson_value::object::IObject;
 use ijson_value::value::IValue;
 use std::alloc::{AllocError, Global};
-use std::fmt::Debug;
 use std::hash::{BuildHasherDefault, FoldHasher};
 use std::process::Abort;
 
@@ -49,13 +45,6 @@ fn key(rt: &impl Abort, alloc: Global, letters: &str) -> IString {
     let text = IString::intern(&mut cache, letters).expect(rt, "a text");
     drop(cache);
     text
-}
-
-/// Inserts an entry with a new key into an object that has capacity for it.
-fn insert_new(rt: &impl Abort, object: &mut IObject, key: IString, value: IValue) {
-    let before = object.insert(key, value).expect(rt, "room");
-    assert!(*rt; before.is_none());
-    drop(before);
 }
 
 /// Replaces a value. The old one is dropped here, whatever its type.
@@ -75,10 +64,4 @@ fn parsed(rt: &impl Abort, alloc: Global, text: &str) -> IValue {
 fn is_written(rt: &impl Abort, alloc: Global, value: &IValue, want: &str) {
     let written = granted!(rt; to_json(alloc, value));
     assert!(*rt; written.as_str() == want);
-}
-
-/// Asserts the debug output of a value.
-fn is_shown<T: Debug>(rt: &impl Abort, alloc: Global, shown: &T, want: &str) {
-    let text = format!(in alloc; "{shown:?}").expect(rt, "a text");
-    assert!(*rt; text.as_str() == want, "{text} is not {want}");
 }

@@ -7,3 +7,4 @@ pub mod comparing
 pub mod hashing
 pub mod lends
 pub mod pairs
+pub mod test_lemmas

@@ -1,6 +1,6 @@
 //! JSON values: arrays, objects with distinct keys, and the value of any of the six kinds.
 //!
-//! The tests of objects are in `ijson_extra`, those of arrays and values in `ijson`.
+//! The tests are in `src/tests`.
 #![tactic(auto)]
 
 pub mod array;
@@ -10,5 +10,7 @@ mod hash;
 pub mod object;
 mod order;
 mod same;
+#[cfg(test)]
+mod tests;
 pub mod value;
 mod word_fold;

@@ -1,13 +1,9 @@
 use super::literals::{EXAMPLE, LITERALS, Literal, value_of};
-use super::refusals::{Keys, MAPS, object_of_map};
 use super::serde::there_and_back;
 use super::{Cache, empty_cache, is_written, parsed};
 use crate::convert::{ConvertError, FromIValue, ToIValue, from_value, to_value};
 use crate::json::to_json;
-use crate::object::IObject;
 use crate::pointer::Pointer;
-use crate::string::IString;
-use crate::table::ReserveError;
 use crate::value::IValue;
 use indexmap::IndexMap;
 use std::alloc::Global;
@@ -139,39 +135,6 @@ fn values_and_their_parts_are_values(rt: HostRuntime) {
     is_text_of(&rt, rt.alloc(), number, "1.5");
     is_text_of(&rt, rt.alloc(), text, r#""a text of many bytes""#);
     drop(value);
-}
-
-/// Maps, and the text of the object of each that has an order.
-static ORDERS: [(Keys, Option<&str>); 3] = [
-    (Keys::Hashes, None),
-    (Keys::Sorts, Some(r#"{"a":2,"b":1,"eight888":3}"#)),
-    (Keys::Keeps, Some(r#"{"b":1,"a":2,"eight888":3}"#)),
-];
-
-/// Returns the object of a map, without spare capacity.
-fn of_map(rt: &impl Abort, alloc: Global, keys: Keys) -> IValue {
-    let object = object_of_map(alloc, &mut empty_cache(alloc), keys).expect(rt, "an object");
-    assert!(rt; object.len() == 3 && object.capacity() == 3);
-    IValue::from(object)
-}
-
-/// Asserts that the object of a map equals another, and its text if it has an order.
-fn is_same(rt: &impl Abort, alloc: Global, keys: Keys, order: Option<&str>, same: &IValue) {
-    let value = of_map(rt, alloc, keys);
-    assert!(rt; value == *same);
-    if let Some(text) = order {
-        is_written(rt, alloc, &value, text);
-    }
-    drop(value);
-}
-
-#[test]
-fn pairs_of_maps_are_objects(rt: HostRuntime) {
-    let same = parsed(&rt, rt.alloc(), r#"{"a":2,"b":1,"eight888":3}"#);
-    for &(keys, order) in &ORDERS {
-        is_same(&rt, rt.alloc(), keys, order, &same);
-    }
-    drop(same);
 }
 
 /// A text, and the text of its value converted to some type and back, or the error.
@@ -455,40 +418,10 @@ fn many_items_go_there_and_back(rt: HostRuntime) {
     drop(items);
 }
 
-/// Returns the object of a map of the entries of another object.
-fn through_map(alloc: Global, object: IObject, keys: Keys) -> Result<IObject, ReserveError> {
-    let pairs = object.into_iter();
-    match keys {
-        Keys::Hashes => {
-            let map: HashMap<IString, IValue> = pairs.collect(alloc)?;
-            IObject::from_hash_map(alloc, map)
-        }
-        Keys::Sorts => {
-            let map: BTreeMap<IString, IValue> = pairs.collect(alloc)?;
-            IObject::from_btree_map(alloc, map)
-        }
-        Keys::Keeps => {
-            let map: IndexMap<IString, IValue> = pairs.collect(alloc)?;
-            IObject::from_index_map(alloc, map)
-        }
-    }
-}
-
-/// Asserts that an object has `count` entries and no spare capacity, also from each map.
-fn goes_through(rt: &impl Abort, alloc: Global, object: &IObject, count: usize) {
-    assert!(rt; object.len() == count && object.capacity() == count);
-    for &keys in &MAPS {
-        let copy = object.clone().expect(rt, "a copy");
-        let again = through_map(alloc, copy, keys).expect(rt, "an object");
-        assert!(rt; again == *object && again.capacity() == count);
-        drop(again);
-    }
-}
-
 #[test]
 fn many_pairs_go_there_and_back(rt: HostRuntime) {
     let pairs = goes_back(&rt, rt.alloc(), &numbered(&rt, rt.alloc(), 10_000));
     let object = pairs.as_object().expect(&rt, "an object");
-    goes_through(&rt, rt.alloc(), object, 10_000);
+    assert!(rt; object.len() == 10_000 && object.capacity() == 10_000);
     drop(pairs);
 }

@@ -1,7 +1,7 @@
 //! Tests that pass if any one allocation fails.
 //!
 //! The state after a failed call is compared, completely if it is small, and the call is repeated. The repository's `check` runs each test
-//! with its first allocation failing, with its second, and so on. The tests for the other crates are in `ijson_extra`.
+//! with its first allocation failing, with its second, and so on.
 
 /// The result of a call, which is repeated if an allocation fails.
 ///
@@ -34,9 +34,7 @@ use crate::convert::{
 use crate::json::{JsonError, from_json, to_json};
 use crate::object::IObject;
 use crate::string::IString;
-use crate::table::ReserveError;
 use crate::value::IValue;
-use indexmap::IndexMap;
 use std::alloc::{AllocError, Global};
 use std::collections::{BTreeMap, HashMap};
 use std::process::Abort;
@@ -69,60 +67,6 @@ fn read(rt: &impl Abort, alloc: Global, text: &str) -> IValue {
 fn is_written(rt: &impl Abort, alloc: Global, value: &IValue, text: &str) {
     let written = granted!(rt; to_json(alloc, value));
     assert!(rt; written.as_str() == text);
-}
-
-/// How a map treats its keys.
-#[derive(Clone, Copy)]
-pub(super) enum Keys {
-    Hashes,
-    Sorts,
-    Keeps,
-}
-
-/// Returns an object of the entries `b`: 1, `a`: 2 and `eight888`: 3, from a map.
-pub(super) fn object_of_map(
-    alloc: Global,
-    cache: &mut Cache,
-    keys: Keys,
-) -> Result<IObject, ReserveError> {
-    let (b, a) = (IString::intern(cache, "b")?, IString::intern(cache, "a")?);
-    let long = IString::intern(cache, "eight888")?;
-    let pairs = [(b, 1i8.into()), (a, 2i8.into()), (long, 3i8.into())];
-    match keys {
-        Keys::Hashes => IObject::from_hash_map(alloc, HashMap::from_array(alloc, pairs)?),
-        Keys::Sorts => IObject::from_btree_map(alloc, BTreeMap::from_array(alloc, pairs)?),
-        Keys::Keeps => IObject::from_index_map(alloc, IndexMap::from_array(alloc, pairs)?),
-    }
-}
-
-/// The entries of the maps.
-static PAIRS: [(&str, i64); 3] = [("b", 1), ("a", 2), ("eight888", 3)];
-
-/// Asserts that an object has each entry of the maps.
-fn has_pairs(rt: &impl Abort, object: &IObject) {
-    for &(key, n) in &PAIRS {
-        assert!(rt; object.get(key).and_then(IValue::to_i64) == Some(n));
-    }
-}
-
-/// Each map.
-pub(super) static MAPS: [Keys; 3] = [Keys::Hashes, Keys::Sorts, Keys::Keeps];
-
-/// Returns the object of a map.
-fn of_map(rt: &impl Abort, alloc: Global, cache: &mut Cache, keys: Keys) -> IObject {
-    granted!(rt; ReserveError::Memory; object_of_map(alloc, cache, keys))
-}
-
-#[test]
-fn maps(rt: HostRuntime) {
-    let mut cache = empty_cache(rt.alloc());
-    for &keys in &MAPS {
-        let object = of_map(&rt, rt.alloc(), &mut cache, keys);
-        assert!(rt; object.len() == 3 && object.capacity() == 3);
-        has_pairs(&rt, &object);
-        drop(object);
-    }
-    drop(cache);
 }
 
 /// The maps of the test below.

@@ -190,14 +190,19 @@ fn many_items(rt: HostRuntime) {
     assert!(rt; found == text);
 }
 
-/// Texts, and the capacity of the value of each, which is the number of elements or members written.
-static ROOM: [(&str, usize); 6] = [
+/// Texts, and the capacity of the value of each, which is its number of elements or entries.
+static ROOM: [(&str, usize); 8] = [
     ("[]", 0),
     ("[1]", 1),
     ("[1,[2],3,4,5]", 5),
     ("{}", 0),
     ("{\"a\":1}", 1),
     ("{\"a\":1,\"b\":{},\"c\":3,\"d\":4,\"e\":5}", 5),
+    ("{\"a\":1,\"b\":2,\"a\":3}", 2),
+    (
+        "{\"a\":1,\"a\":2,\"a\":3,\"a\":4,\"a\":5,\"a\":6,\"a\":7}",
+        1,
+    ),
 ];
 
 fn capacity(value: &IValue) -> usize {

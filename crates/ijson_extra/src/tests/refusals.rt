@@ -6,7 +6,6 @@ ghost use Rattle.std.specs.Prelude.{◌≡◌, ◌<◌, IfOk};
 
 pub(super) mod large;
 mod no_memory;
-mod objects;
 
 use super::canonical::is_canonical;
 use super::{Cache, empty_cache, is_written, parsed};
@@ -16,8 +15,6 @@ use ijson_json::{
 };
 use ijson_number::{INumber, ParseNumberError};
 use ijson_string::IString;
-use ijson_value::array::IArray;
-use ijson_value::object::IObject;
 use ijson_value::value::IValue;
 use std::alloc::{AllocError, Global};
 use std::process::Abort;
@@ -66,176 +63,6 @@ fn number_at_the_front(rt: HostRuntime) {
     assert!(rt; number == same);
     drop(same);
     drop(number);
-}
-
-fn number(at: usize) -> IValue {
-    IValue::from(at)
-}
-
-/// Returns `true` if the elements of an array are the `len` numbers from `first` on.
-fn counts(array: &IArray, first: usize, len: usize) -> bool {
-    let mut next = first;
-    for item in array.iter() {
-        if item.to_usize() != Some(next) {
-            return false;
-        }
-        next = next.wrapping_add(1);
-    }
-    array.len() == len
-}
-
-/// Pushes the number `len` onto the numbers before it.
-fn pushes(rt: &impl Abort, array: &mut IArray, len: usize) {
-    let capacity = array.capacity();
-    if let Err(refused) = array.push(number(len)) {
-        assert!(*rt; counts(array, 0, len) && array.capacity() == capacity && len == capacity);
-        assert!(*rt; refused.0.to_usize() == Some(len));
-        array.push(refused.0).expect(rt, "an item");
-    }
-}
-
-#[test]
-fn array_push(rt: HostRuntime) {
-    let mut array = IArray::new(rt.alloc());
-    for len in 0..20usize {
-        pushes(&rt, &mut array, len);
-    }
-    assert!(rt; counts(&array, 0, 20));
-    drop(array);
-}
-
-/// Returns an empty array of this capacity.
-fn array_of_room(rt: &impl Abort, alloc: Global, capacity: usize) -> IArray {
-    granted!(rt; IArray::with_capacity(alloc, capacity))
-}
-
-/// Returns an array of the numbers 1 and 2.
-fn one_and_two(rt: &impl Abort, alloc: Global) -> IArray {
-    let mut array = array_of_room(rt, alloc, 2);
-    array.push(number(1)).expect(rt, "room");
-    array.push(number(2)).expect(rt, "room");
-    array
-}
-
-/// Inserts 0 before the numbers from 1 on, which fill an array.
-fn inserts_zero(rt: &impl Abort, array: &mut IArray, len: usize) {
-    if let Err(refused) = array.insert(0, number(0)) {
-        assert!(*rt; refused.0.to_usize() == Some(0) && array.capacity() == len);
-        assert!(*rt; counts(array, 1, len));
-        array.insert(0, refused.0).expect(rt, "an item");
-    }
-}
-
-/// Reserves capacity for `more` elements after the numbers below `len`.
-fn grows(rt: &impl Abort, array: &mut IArray, len: usize, more: usize) {
-    let capacity = array.capacity();
-    if array.reserve(more).is_err() {
-        assert!(*rt; counts(array, 0, len) && array.capacity() == capacity);
-        array.reserve(more).expect(rt, "room");
-    }
-    assert!(*rt; counts(array, 0, len));
-}
-
-/// Shrinks the capacity to that of the numbers 0 to 2.
-fn shrinks(rt: &impl Abort, array: &mut IArray) {
-    let capacity = array.capacity();
-    if array.shrink_to_fit().is_err() {
-        assert!(*rt; counts(array, 0, 3) && array.capacity() <= capacity);
-        array.shrink_to_fit().expect(rt, "less room");
-    }
-    assert!(*rt; counts(array, 0, 3) && array.capacity() == 3);
-}
-
-/// Inserts an element into an array that has not allocated.
-fn inserts_first(rt: &impl Abort, alloc: Global) {
-    let mut array = IArray::new(alloc);
-    inserts_zero(rt, &mut array, 0);
-    assert!(*rt; counts(&array, 0, 1));
-    drop(array);
-}
-
-/// Reserves capacity for three elements in an array that has not allocated, and pushes them.
-fn reserves_three(rt: &impl Abort, alloc: Global) {
-    let mut array = IArray::new(alloc);
-    grows(rt, &mut array, 0, 3);
-    for at in 0..3usize {
-        array.push(number(at)).expect(rt, "room");
-    }
-    assert!(*rt; counts(&array, 0, 3));
-    drop(array);
-}
-
-#[test]
-fn array_room(rt: HostRuntime) {
-    let alloc = rt.alloc();
-    inserts_first(&rt, alloc);
-    reserves_three(&rt, alloc);
-    let mut array = one_and_two(&rt, alloc);
-    inserts_zero(&rt, &mut array, 2);
-    grows(&rt, &mut array, 3, 20);
-    assert!(rt; array.capacity() == 23);
-    shrinks(&rt, &mut array);
-    drop(array);
-}
-
-/// Returns `true` if an array of `len` pushed elements has no spare capacity.
-fn grows_at(len: usize) -> bool {
-    matches!(len, 0 | 4 | 8)
-}
-
-/// Extends an empty array by the numbers 0 to 8.
-fn extends(rt: &impl Abort, array: &mut IArray) {
-    if let Err(refused) = array.extend((0..9usize).map(number)) {
-        let added = array.len();
-        assert!(*rt; added < 9 && grows_at(added) && counts(array, 0, added));
-        assert!(*rt; refused.0.to_usize() == Some(added));
-        array.push(refused.0).expect(rt, "an item");
-        let rest = (added + 1..9).map(number);
-        array.extend(rest).expect(rt, "the other items");
-    }
-}
-
-/// Returns an array of the numbers 0 to 8, from those of another one.
-fn made_again(rt: &impl Abort, alloc: Global, array: IArray) -> IArray {
-    match IArray::from_iter(alloc, array) {
-        Ok(again) => again,
-        Err(refused) => {
-            assert!(*rt; grows_at(refused.0.to_usize().unwrap_or(9)));
-            drop(refused);
-            IArray::from_iter(alloc, (0..9usize).map(number)).expect(rt, "an array")
-        }
-    }
-}
-
-/// Returns a list of the numbers 0 to 2.
-fn three(rt: &impl Abort, alloc: Global) -> Vec<IValue> {
-    let mut list = granted!(rt; Vec::with_capacity(alloc, 3));
-    for at in 0..3usize {
-        list.push(number(at)).expect(rt, "room");
-    }
-    list
-}
-
-/// Returns an array of the elements of a list.
-fn of_list(rt: &impl Abort, alloc: Global, list: Vec<IValue>) -> IArray {
-    match IArray::from_vec(alloc, list) {
-        Ok(array) => array,
-        Err(refused) => IArray::from_vec(alloc, refused.value).expect(rt, "an array"),
-    }
-}
-
-#[test]
-fn array_extend(rt: HostRuntime) {
-    let alloc = rt.alloc();
-    let mut array = IArray::new(alloc);
-    extends(&rt, &mut array);
-    assert!(rt; counts(&array, 0, 9));
-    let again = made_again(&rt, alloc, array);
-    assert!(rt; counts(&again, 0, 9));
-    drop(again);
-    let listed = of_list(&rt, alloc, three(&rt, alloc));
-    assert!(rt; counts(&listed, 0, 3));
-    drop(listed);
 }
 
 /// Returns a cache that contains one string.
@@ -587,44 +414,4 @@ fn compacting_to_a_value(rt: HostRuntime) {
     drop(output);
     is_written(&rt, alloc, &value, "[1.5]");
     drop(value);
-}
-
-/// Copies an array by its own call, and its last element, an object of two entries.
-fn copies_parts(rt: &impl Abort, array: &IArray) {
-    let copy = granted!(rt; array.clone());
-    assert!(*rt; copy == *array);
-    drop(copy);
-    let last = array.as_slice().last().expect(rt, "an item");
-    let object = last.as_object().expect(rt, "an object");
-    let copy = granted!(rt; object.clone());
-    assert!(*rt; copy == *object && copy.capacity() == 2);
-    drop(copy);
-}
-
-/// Copies a value of this text.
-fn copied(rt: &impl Abort, alloc: Global, value: &IValue, text: &str) -> IValue {
-    let copy = granted!(rt; value.clone());
-    assert!(*rt; copy == *value);
-    is_written(rt, alloc, &copy, text);
-    copy
-}
-
-/// Copies elements into an array.
-fn copies_items(rt: &impl Abort, alloc: Global, items: &[IValue]) {
-    let array = granted!(rt; IArray::from_slice(alloc, items));
-    assert!(*rt; array.as_slice() == items);
-    drop(array);
-}
-
-#[test]
-fn cloning(rt: HostRuntime) {
-    let text =
-        "[12345678901234567890123.5,\"eight888\",[true,[]],{\"k\":1,\"longlong\":{\"a\":[]}}]";
-    let alloc = rt.alloc();
-    let value = parsed(&rt, alloc, text);
-    copies_parts(&rt, value.as_array().expect(&rt, "an array"));
-    let copy = copied(&rt, alloc, &value, text);
-    let items = [copy, value];
-    copies_items(&rt, alloc, &items);
-    drop(items);
 }

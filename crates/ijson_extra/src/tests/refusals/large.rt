@@ -1,14 +1,11 @@
-//! Many letters, elements and entries, with each allocation failing once.
+//! Texts of many letters, elements and entries, with each allocation failing once.
 
-use super::{copied, is_compacted, pushes, text_of_room, used_cache};
-use crate::tests::{insert_new, is_written, parsed};
+use super::{is_compacted, text_of_room, used_cache};
+use crate::tests::{is_written, parsed};
 use ijson_json::push_separator;
 use ijson_number::INumber;
-use ijson_string::IString;
-use ijson_value::array::IArray;
-use ijson_value::object::IObject;
 use ijson_value::value::IValue;
-use std::alloc::Global;
+use std::alloc::{AllocError, Global};
 use std::process::Abort;
 
 /// Appends a text `times` times.
@@ -42,6 +39,14 @@ fn of_much(rt: &impl Abort, alloc: Global) -> String {
     text
 }
 
+/// Copies a value of this text.
+fn copied(rt: &impl Abort, alloc: Global, value: &IValue, text: &str) -> IValue {
+    let copy = granted!(rt; value.clone());
+    assert!(*rt; copy == *value);
+    is_written(rt, alloc, &copy, text);
+    copy
+}
+
 #[test]
 fn read_copied_and_written(rt: HostRuntime) {
     let alloc = rt.alloc();
@@ -73,48 +78,4 @@ fn compacted(rt: HostRuntime) {
         assert!(rt; is_compacted(&rt, alloc, &mut cache, 100_000, 1_000_000, text, line));
     }
     drop(cache);
-}
-
-/// Inserts an entry into an object, which is full if an allocation fails.
-///
-/// The entry returned is inserted again.
-fn puts(rt: &impl Abort, object: &mut IObject, key: IString, value: IValue) {
-    let len = object.len();
-    if let Some(refused) = object.insert(key, value).err() {
-        assert!(*rt; object.len() == len && object.capacity() == len);
-        insert_new(rt, object, refused.key, refused.value);
-    }
-}
-
-/// Returns the object of 30,000 entries.
-fn pairs(rt: &impl Abort, alloc: Global) -> IObject {
-    let mut text = text_of_room(rt, alloc, 400_000);
-    text.push('{').expect(rt, "room");
-    push_members(rt, &mut text, 30_000);
-    text.push('}').expect(rt, "room");
-    let value = parsed(rt, alloc, text.as_str());
-    value.into_object().expect(rt, "an object")
-}
-
-/// Inserts entries into an object one by one.
-fn puts_each(rt: &impl Abort, object: &mut IObject, pairs: IObject) {
-    for (key, value) in pairs {
-        puts(rt, object, key, value);
-    }
-}
-
-#[test]
-fn put_one_by_one(rt: HostRuntime) {
-    let alloc = rt.alloc();
-    let mut array = IArray::new(alloc);
-    for len in 0..70_000usize {
-        pushes(&rt, &mut array, len);
-    }
-    assert!(rt; array.len() == 70_000 && array.capacity() == 131_072);
-    drop(array);
-    let mut object = IObject::new(alloc);
-    puts_each(&rt, &mut object, pairs(&rt, alloc));
-    assert!(rt; object.capacity() == 32_768);
-    assert!(rt; object == pairs(&rt, alloc));
-    drop(object);
 }

@@ -1,7 +1,7 @@
 use Rattle.std.proofs.Common.{◌≡◌, rules, true, false, ◌∷◌, []}
-use Rattle.ijson_extra.proofs.test_lemmas.Kept.{second_kept, tells_false}
+use Rattle.ijson_value.proofs.test_lemmas.Kept.{second_kept, tells_false}
 use Rattle.ijson_value.specs.Values.{boolean_value}
-use Rattle.ijson_extra.proofs.tests.objects.keep_true.Goals as goal
+use Rattle.ijson_value.proofs.tests.objects.keep_true.Goals as goal
 
 pub returns-clause-list : goal.returns-clause-list
 returns-clause-list c =

@@ -1,5 +1,5 @@
-use Rattle.ijson_extra.proofs.test_lemmas.Kept.{second_there, second_written}
-use Rattle.ijson_extra.proofs.tests.objects.put_two.Goals as goal
+use Rattle.ijson_value.proofs.test_lemmas.Kept.{second_there, second_written}
+use Rattle.ijson_value.proofs.tests.objects.put_two.Goals as goal
 
 pub unwrap-requires : goal.unwrap-requires
 unwrap-requires c =

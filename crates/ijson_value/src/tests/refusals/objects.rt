@@ -1,21 +1,15 @@
 //! Objects after failed allocations: the entries, their order and the capacity, the values returned, and the call repeated.
 
-use super::interned;
-use crate::tests::{empty_cache, insert_new, key, set};
+use crate::object::{Entry, IObject, RefusedKey, RefusedPair, RefusedPairs};
+use crate::tests::{insert_new, key, number_of, of_number, set};
+use crate::value::IValue;
 use ijson_string::IString;
 use ijson_table::ReserveError;
-use ijson_value::object::{Entry, IObject, RefusedKey, RefusedPair, RefusedPairs};
-use ijson_value::value::IValue;
 use std::alloc::{AllocError, Global};
 use std::process::Abort;
 
 /// The entries of the objects below.
-pub static PAIRS: [(&str, u8); 5] = [("a", 1), ("b", 2), ("c", 3), ("d", 4), ("e", 5)];
-
-/// Returns `true` if a value is this number.
-pub fn is_number(value: &IValue, number: u8) -> bool {
-    value.to_u32() == Some(u32::from(number))
-}
+pub static PAIRS: [(&str, usize); 5] = [("a", 1), ("b", 2), ("c", 3), ("d", 4), ("e", 5)];
 
 /// Returns `true` if an object has and finds the first `len` entries in order, at this capacity.
 pub fn holds(object: &IObject, len: usize, capacity: usize) -> bool {
@@ -23,7 +17,7 @@ pub fn holds(object: &IObject, len: usize, capacity: usize) -> bool {
     for (key, value) in PAIRS.iter().take(len) {
         match (pairs.next(), object.get(*key)) {
             (Some((text, next)), Some(found))
-                if text.eq_str(key) && is_number(next, *value) && is_number(found, *value) => {}
+                if text.eq_str(key) && number_of(next) == *value && number_of(found) == *value => {}
             _ => return false,
         }
     }
@@ -64,7 +58,7 @@ fn of_list(rt: &impl Abort, alloc: Global) -> IObject {
 fn is_listed(pairs: &[(IString, IValue)]) -> bool {
     for at in 0..pairs.len() {
         let (text, value) = PAIRS[at % 5];
-        if !pairs[at].0.eq_str(text) || !is_number(&pairs[at].1, value) {
+        if !pairs[at].0.eq_str(text) || number_of(&pairs[at].1) != value {
             return false;
         }
     }
@@ -108,19 +102,19 @@ fn copied(rt: HostRuntime) {
 }
 
 /// Inserts an entry with a new key into an object, which is full if an allocation fails.
-fn inserts(rt: &impl Abort, object: &mut IObject, key: IString, number: u8, len: usize) {
+fn inserts(rt: &impl Abort, object: &mut IObject, key: IString, number: usize, len: usize) {
     if let Some(refused) = object.insert(key, IValue::from(number)).err() {
-        assert!(*rt; is_number(&refused.value, number) && refused.why == ReserveError::Memory);
-        assert!(*rt; holds(object, len, len));
+        assert!(rt; number_of(&refused.value) == number && refused.why == ReserveError::Memory);
+        assert!(rt; holds(object, len, len));
         insert_new(rt, object, refused.key, refused.value);
     }
 }
 
 /// Inserts a long key after the five entries, within the capacity.
 fn inserts_long(rt: &impl Abort, alloc: Global, object: &mut IObject) {
-    let long = interned(rt, &mut empty_cache(alloc), "eight888");
+    let long = key(rt, alloc, "eight888");
     insert_new(rt, object, long, IValue::NULL);
-    assert!(*rt; object.contains_key("eight888") && object.len() == 6);
+    assert!(rt; object.contains_key("eight888") && object.len() == 6);
 }
 
 #[test]
@@ -137,11 +131,11 @@ fn insert(rt: HostRuntime) {
 
 /// Inserts the fifth entry at an index of an object of the others, which is full if an allocation fails.
 fn shift_inserts(rt: &impl Abort, alloc: Global, object: &mut IObject, position: usize) {
-    assert!(*rt; position <= object.len());
-    let former = object.shift_insert(position, key(rt, alloc, "e"), IValue::from(5u8));
+    assert!(rt; position <= object.len());
+    let former = object.shift_insert(position, key(rt, alloc, "e"), of_number(5));
     if let Some(refused) = former.err() {
-        assert!(*rt; is_number(&refused.value, 5) && refused.why == ReserveError::Memory);
-        assert!(*rt; holds(object, 4, 4) && position <= object.len());
+        assert!(rt; number_of(&refused.value) == 5 && refused.why == ReserveError::Memory);
+        assert!(rt; holds(object, 4, 4) && position <= object.len());
         let again = object.shift_insert(position, refused.key, refused.value);
         drop(again.expect(rt, "room"));
     }
@@ -159,19 +153,19 @@ fn shift_insert(rt: HostRuntime) {
 /// Reserves capacity for one entry in a full object.
 fn grows(rt: &impl Abort, object: &mut IObject, len: usize) {
     if let Err(why) = object.reserve(1) {
-        assert!(*rt; why == ReserveError::Memory && holds(object, len, len));
+        assert!(rt; why == ReserveError::Memory && holds(object, len, len));
         object.reserve(1).expect(rt, "room");
     }
-    assert!(*rt; holds(object, len, 4));
+    assert!(rt; holds(object, len, 4));
 }
 
 /// Shrinks the capacity again, which does not allocate if there is no entry.
 fn shrinks(rt: &impl Abort, object: &mut IObject, len: usize) {
     if let Err(why) = object.shrink_to_fit() {
-        assert!(*rt; len > 0 && why == ReserveError::Memory && holds(object, len, 4));
+        assert!(rt; len > 0 && why == ReserveError::Memory && holds(object, len, 4));
         object.shrink_to_fit().expect(rt, "less room");
     }
-    assert!(*rt; holds(object, len, len));
+    assert!(rt; holds(object, len, len));
 }
 
 /// The number of entries in a full object. The first has not allocated.
@@ -190,7 +184,7 @@ fn room(rt: HostRuntime) {
 /// The key and the value of an entry, the number of entries before it, and the capacity it needs.
 ///
 /// The value is the number of entries with it. The first of the objects has not allocated.
-static FULL: [(&str, u8, usize, usize); 2] = [("a", 1, 0, 4), ("e", 5, 4, 8)];
+static FULL: [(&str, usize, usize, usize); 2] = [("a", 1, 0, 4), ("e", 5, 4, 8)];
 
 /// Returns why the `Entry` of a copied key failed, if it did.
 fn refused_copy(object: &mut IObject, key: &IString) -> Option<ReserveError> {
@@ -204,7 +198,7 @@ fn refused_copy(object: &mut IObject, key: &IString) -> Option<ReserveError> {
 }
 
 /// Returns the error of the `Entry` of a key, if it failed; otherwise writes a number if it is vacant.
-pub fn refused_entry(object: &mut IObject, key: IString, number: u8) -> Option<RefusedKey> {
+pub fn refused_entry(object: &mut IObject, key: IString, number: usize) -> Option<RefusedKey> {
     match object.entry(key) {
         Ok(entry) => {
             put(entry, number);
@@ -222,7 +216,7 @@ pub fn is_granted<T: Drop>(refused: Option<T>) -> bool {
 }
 
 /// Puts a number into a vacant `Entry`.
-fn put(entry: Entry<'_>, number: u8) {
+fn put(entry: Entry<'_>, number: usize) {
     if let Entry::Vacant(vacant) = entry {
         vacant.insert(IValue::from(number));
     }
@@ -232,18 +226,18 @@ fn put(entry: Entry<'_>, number: u8) {
 fn enters_copy(rt: &impl Abort, alloc: Global, key: &IString, len: usize, capacity: usize) {
     let mut object = with_pairs(rt, alloc, len, len);
     if let Some(why) = refused_copy(&mut object, key) {
-        assert!(*rt; why == ReserveError::Memory && holds(&object, len, len));
-        assert!(*rt; refused_copy(&mut object, key).is_none());
+        assert!(rt; why == ReserveError::Memory && holds(&object, len, len));
+        assert!(rt; refused_copy(&mut object, key).is_none());
     }
-    assert!(*rt; holds(&object, len, capacity));
+    assert!(rt; holds(&object, len, capacity));
     drop(object);
 }
 
 /// Inserts the entry after the first `len`, which fill an object, by its `Entry`.
-fn enters(rt: &impl Abort, object: &mut IObject, key: IString, number: u8, len: usize) {
+fn enters(rt: &impl Abort, object: &mut IObject, key: IString, number: usize, len: usize) {
     if let Some(refused) = refused_entry(object, key, number) {
-        assert!(*rt; refused.why == ReserveError::Memory && holds(object, len, len));
-        assert!(*rt; is_granted(refused_entry(object, refused.key, number)));
+        assert!(rt; refused.why == ReserveError::Memory && holds(object, len, len));
+        assert!(rt; is_granted(refused_entry(object, refused.key, number)));
     }
 }
 
@@ -251,13 +245,13 @@ fn enters(rt: &impl Abort, object: &mut IObject, key: IString, number: u8, len: 
 fn entries(rt: HostRuntime) {
     let alloc = rt.alloc();
     for &(text, number, len, capacity) in &FULL {
-        let long = interned(&rt, &mut empty_cache(alloc), "a key that owns memory");
+        let long = key(&rt, alloc, "a key that owns memory");
         enters_copy(&rt, alloc, &long, len, capacity);
         drop(long);
         let next = key(&rt, alloc, text);
         let mut object = with_pairs(&rt, alloc, len, len);
         enters(&rt, &mut object, next, number, len);
-        assert!(rt; holds(&object, usize::from(number), capacity));
+        assert!(rt; holds(&object, number, capacity));
         drop(object);
     }
 }
@@ -265,48 +259,35 @@ fn entries(rt: HostRuntime) {
 /// Returns the key that a failed allocation returned with null.
 fn beside_null(rt: &impl Abort, refused: RefusedPair) -> IString {
     let RefusedPair { key, value, why } = refused;
-    assert!(*rt; value.is_null() && why == ReserveError::Memory);
+    assert!(rt; value.is_null() && why == ReserveError::Memory);
     drop(value);
     key
+}
+
+/// A way to get the value of a key of an object inside a value: by the object, by the content of the value, or by its path.
+#[derive(Clone, Copy)]
+enum Way {
+    Object,
+    Content,
+    Path,
 }
 
 /// Returns the key if an allocation failed; otherwise writes a number as its value.
 fn refused_value(
     rt: &impl Abort,
-    object: &mut IObject,
-    key: IString,
-    number: u8,
-) -> Option<IString> {
-    match object.index_or_insert(key) {
-        Ok(value) => {
-            set(value, IValue::from(number));
-            None
-        }
-        Err(refused) => Some(beside_null(rt, refused)),
-    }
-}
-
-/// Writes a number as the value of the key after the first `len`, in an object that these fill.
-fn puts(rt: &impl Abort, object: &mut IObject, key: IString, number: u8, len: usize) {
-    if let Some(key) = refused_value(rt, object, key, number) {
-        assert!(*rt; holds(object, len, len));
-        assert!(*rt; is_granted(refused_value(rt, object, key, number)));
-    }
-}
-
-/// Like `refused_value`, for an object inside a value, by its content or by the path of the value.
-fn refused_inside(
-    rt: &impl Abort,
     value: &mut IValue,
-    by_path: bool,
+    way: Way,
     key: IString,
-    number: u8,
+    number: usize,
 ) -> Option<IString> {
-    assert!(*rt; value.is_object());
-    let place = if by_path {
-        IValue::index_or_insert(value, key)
-    } else {
-        value.index_or_insert(key)
+    assert!(rt; value.is_object());
+    let place = match way {
+        Way::Object => {
+            let object = value.as_object_mut().expect(rt, "an object");
+            object.index_or_insert(key)
+        }
+        Way::Content => value.index_or_insert(key),
+        Way::Path => IValue::index_or_insert(value, key),
     };
     match place {
         Ok(value) => {
@@ -319,44 +300,25 @@ fn refused_inside(
 
 /// Asserts that a value is an object of the first `len` entries.
 fn holds_inside(rt: &impl Abort, value: &IValue, len: usize, capacity: usize) {
-    assert!(*rt; holds(value.as_object().expect(rt, "an object"), len, capacity));
+    assert!(rt; holds(value.as_object().expect(rt, "an object"), len, capacity));
 }
 
-/// Like `puts`, for an object inside a value.
-fn puts_inside(
-    rt: &impl Abort,
-    value: &mut IValue,
-    by_path: bool,
-    key: IString,
-    number: u8,
-    len: usize,
-) {
-    if let Some(key) = refused_inside(rt, value, by_path, key, number) {
+/// Writes a number as the value of the key after the first `len`, in an object that these fill.
+fn puts(rt: &impl Abort, value: &mut IValue, way: Way, key: IString, number: usize, len: usize) {
+    if let Some(key) = refused_value(rt, value, way, key, number) {
         holds_inside(rt, value, len, len);
-        assert!(*rt; is_granted(refused_inside(rt, value, by_path, key, number)));
+        assert!(rt; is_granted(refused_value(rt, value, way, key, number)));
     }
 }
 
 #[test]
 fn values_beside_keys(rt: HostRuntime) {
     let alloc = rt.alloc();
-    for &(text, number, len, capacity) in &FULL {
-        let mut object = with_pairs(&rt, alloc, len, len);
-        puts(&rt, &mut object, key(&rt, alloc, text), number, len);
-        assert!(rt; holds(&object, usize::from(number), capacity));
-        drop(object);
-    }
-}
-
-#[test]
-fn values_beside_keys_inside(rt: HostRuntime) {
-    let alloc = rt.alloc();
-    for by_path in [false, true] {
+    for way in [Way::Object, Way::Content, Way::Path] {
         for &(text, number, len, capacity) in &FULL {
             let mut value = IValue::from(with_pairs(&rt, alloc, len, len));
-            let key = key(&rt, alloc, text);
-            puts_inside(&rt, &mut value, by_path, key, number, len);
-            holds_inside(&rt, &value, usize::from(number), capacity);
+            puts(&rt, &mut value, way, key(&rt, alloc, text), number, len);
+            holds_inside(&rt, &value, number, capacity);
             drop(value);
         }
     }
@@ -367,7 +329,7 @@ fn is_back(refused: &RefusedPair, len: usize) -> bool {
     match PAIRS.get(len) {
         Some((key, value)) => {
             refused.key.eq_str(key)
-                && is_number(&refused.value, *value)
+                && number_of(&refused.value) == *value
                 && refused.why == ReserveError::Memory
         }
         None => false,
@@ -382,31 +344,29 @@ fn are_refused(rt: &impl Abort, object: &IObject, answer: Result<(), RefusedPair
         Ok(()) => false,
         Err(refused) => {
             let len = object.len();
-            assert!(*rt; len == 0 || len == 4);
-            assert!(*rt; is_back(&refused, len) && holds(object, len, len));
+            assert!(rt; len == 0 || len == 4);
+            assert!(rt; is_back(&refused, len) && holds(object, len, len));
             drop(refused);
             true
         }
     }
 }
 
-/// Extends an empty object by the five entries.
-fn extends(rt: &impl Abort, alloc: Global, object: &mut IObject) {
-    let answer = object.extend(with_pairs(rt, alloc, 5, 5));
-    if are_refused(rt, object, answer) {
-        object
-            .extend(with_pairs(rt, alloc, 5, 5))
-            .expect(rt, "the pairs");
+/// Extends an object by entries, or overlays it with them.
+fn added(object: &mut IObject, pairs: IObject, overlays: bool) -> Result<(), RefusedPair> {
+    if overlays {
+        object.overlay(pairs)
+    } else {
+        object.extend(pairs)
     }
 }
 
-/// Overlays an empty object with the five entries.
-fn overlays(rt: &impl Abort, alloc: Global, object: &mut IObject) {
-    let answer = object.overlay(with_pairs(rt, alloc, 5, 5));
+/// Adds the five entries to an empty object.
+fn extends(rt: &impl Abort, alloc: Global, object: &mut IObject, overlays: bool) {
+    let answer = added(object, with_pairs(rt, alloc, 5, 5), overlays);
     if are_refused(rt, object, answer) {
-        object
-            .overlay(with_pairs(rt, alloc, 5, 5))
-            .expect(rt, "the pairs");
+        let again = added(object, with_pairs(rt, alloc, 5, 5), overlays);
+        again.expect(rt, "the pairs");
     }
 }
 
@@ -415,7 +375,7 @@ fn made_again(rt: &impl Abort, alloc: Global, object: IObject) -> IObject {
     match IObject::from_iter(alloc, object) {
         Ok(again) => again,
         Err(refused) => {
-            assert!(*rt; is_back(&refused, 0) || is_back(&refused, 4));
+            assert!(rt; is_back(&refused, 0) || is_back(&refused, 4));
             drop(refused);
             IObject::from_iter(alloc, with_pairs(rt, alloc, 5, 5)).expect(rt, "an object")
         }
@@ -425,19 +385,12 @@ fn made_again(rt: &impl Abort, alloc: Global, object: IObject) -> IObject {
 #[test]
 fn extend(rt: HostRuntime) {
     let alloc = rt.alloc();
-    let mut object = IObject::new(alloc);
-    extends(&rt, alloc, &mut object);
-    assert!(rt; holds(&object, 5, 8));
-    let again = made_again(&rt, alloc, object);
-    assert!(rt; holds(&again, 5, 8));
-    drop(again);
-}
-
-#[test]
-fn overlay(rt: HostRuntime) {
-    let alloc = rt.alloc();
-    let mut object = IObject::new(alloc);
-    overlays(&rt, alloc, &mut object);
-    assert!(rt; holds(&object, 5, 8));
-    drop(object);
+    for overlays in [false, true] {
+        let mut object = IObject::new(alloc);
+        extends(&rt, alloc, &mut object, overlays);
+        assert!(rt; holds(&object, 5, 8));
+        let again = made_again(&rt, alloc, object);
+        assert!(rt; holds(&again, 5, 8));
+        drop(again);
+    }
 }

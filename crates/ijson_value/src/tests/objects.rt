@@ -5,13 +5,15 @@ ghost use Rattle.std.specs.Option.{unwrap_or};
 ghost use Rattle.ijson_table.specs.Store.{lookup, put};
 ghost use Rattle.ijson_value.specs.Values.{boolean_value};
 
-use super::{empty_cache, insert_new, is_shown, is_written, key, parsed, set};
-use ijson_number::INumber;
+use super::built::number_spelled;
+use super::{empty_cache, insert_new, is_shown, key, number_in, number_of, of_number, set};
+use crate::object::{Entry, IObject, RefusedReplacement};
+use crate::value::IValue;
 use ijson_string::IString;
 use ijson_table::ReserveError;
-use ijson_value::object::{Entry, IObject, RefusedReplacement};
-use ijson_value::value::{DestructuredRef, IValue};
+use indexmap::IndexMap;
 use std::alloc::Global;
+use std::collections::{BTreeMap, HashMap};
 use std::process::Abort;
 
 /// Returns an object of these keys, with their indices as values.
@@ -24,18 +26,6 @@ fn of_keys(rt: &impl Abort, alloc: Global, keys: &[&str]) -> IObject {
     object
 }
 
-fn of_number(number: usize) -> IValue {
-    IValue::from(INumber::from(number))
-}
-
-/// Returns a number, or 99 for another value.
-fn number_of(value: &IValue) -> usize {
-    match value.destructure_ref() {
-        DestructuredRef::Number(number) => number.to_usize().unwrap_or(99),
-        _ => 99,
-    }
-}
-
 /// Returns the number of a key, or 99 if there is none.
 fn number_at(object: &IObject, key: &str) -> usize {
     if object.contains_key(key) {
@@ -43,16 +33,6 @@ fn number_at(object: &IObject, key: &str) -> usize {
     } else {
         99
     }
-}
-
-/// Returns the number in an option, or `Some(99)` for another value.
-pub(super) fn number_in(value: Option<IValue>) -> Option<usize> {
-    let number = match &value {
-        Some(value) => Some(number_of(value)),
-        None => None,
-    };
-    drop(value);
-    number
 }
 
 /// Returns `true` if this is the key of the removed entry, or both are missing.
@@ -95,25 +75,106 @@ fn insertions(rt: HostRuntime) {
     let old = object.insert(key(&rt, alloc, "a"), of_number(9));
     assert!(rt; number_in(old.expect(&rt, "room")) == Some(0));
     assert!(rt; object.capacity() == 4 && number_at(&object, "a") == 9);
+    assert!(rt; has_keys(&object, &["a", "b", "c", "d"]));
     drop(object);
 }
 
-/// Two of the keys a to d are removed, and the last entry replaces each.
+/// The calls that remove the entry of a key.
+enum Removal {
+    Remove,
+    RemoveEntry,
+    ShiftRemove,
+    ShiftRemoveEntry,
+}
+
+/// Returns the number of a removed entry, which has this key.
+fn number_removed(rt: &impl Abort, pair: Option<(IString, IValue)>, key: &str) -> Option<usize> {
+    let (text, value) = pair?;
+    assert!(rt; text.eq_str(key));
+    drop(text);
+    number_in(Some(value))
+}
+
+/// Removes the entry of a key by such a call, and returns its number.
+fn removed(
+    rt: &impl Abort,
+    object: &mut IObject,
+    removal: &Removal,
+    letters: &str,
+    key: &IString,
+) -> Option<usize> {
+    match removal {
+        Removal::Remove => number_in(object.remove(letters)),
+        Removal::RemoveEntry => number_removed(rt, object.remove_entry(key), letters),
+        Removal::ShiftRemove => number_in(object.shift_remove(&letters)),
+        Removal::ShiftRemoveEntry => {
+            number_removed(rt, object.shift_remove_entry(letters), letters)
+        }
+    }
+}
+
+/// Keys, a call with a key, the number of the removed entry, and the remaining keys.
+static REMOVED: [(&[&str], Removal, &str, Option<usize>, &[&str]); 8] = [
+    (
+        &["a", "b", "c", "d"],
+        Removal::Remove,
+        "b",
+        Some(1),
+        &["a", "d", "c"],
+    ),
+    (&["a", "b", "c"], Removal::Remove, "b", Some(1), &["a", "c"]),
+    (&["a", "c"], Removal::Remove, "b", None, &["a", "c"]),
+    (
+        &["a", "d", "c"],
+        Removal::RemoveEntry,
+        "d",
+        Some(1),
+        &["a", "c"],
+    ),
+    (
+        &["a", "b", "c", "d"],
+        Removal::ShiftRemove,
+        "b",
+        Some(1),
+        &["a", "c", "d"],
+    ),
+    (
+        &["a", "c", "d"],
+        Removal::ShiftRemove,
+        "b",
+        None,
+        &["a", "c", "d"],
+    ),
+    (
+        &["a", "b", "c", "d"],
+        Removal::ShiftRemoveEntry,
+        "b",
+        Some(1),
+        &["a", "c", "d"],
+    ),
+    (
+        &["a", "c", "d"],
+        Removal::ShiftRemoveEntry,
+        "b",
+        None,
+        &["a", "c", "d"],
+    ),
+];
+
+/// A removal keeps the capacity.
 #[test]
 fn removals(rt: HostRuntime) {
     let alloc = rt.alloc();
-    let (mut object, d) = (four(&rt, alloc), key(&rt, alloc, "d"));
-    assert!(rt; number_in(object.remove("b")) == Some(1) && has_keys(&object, &["a", "d", "c"]));
-    assert!(rt; is_pair(object.remove_entry(&d), Some("d")) && has_keys(&object, &["a", "c"]));
-    assert!(rt; number_in(object.remove("b")).is_none() && object.capacity() == 4);
-    drop(d);
-    drop(object);
-    let mut object = of_keys(&rt, alloc, &["a", "b", "c"]);
-    assert!(rt; number_in(object.remove("b")) == Some(1) && object.capacity() == 4);
-    assert!(rt; has_keys(&object, &["a", "c"]));
-    object.shrink_to_fit().expect(&rt, "less room");
-    assert!(rt; has_keys(&object, &["a", "c"]) && object.capacity() == 2);
-    drop(object);
+    for (keys, removal, letters, number, left) in &REMOVED {
+        let mut object = of_keys(&rt, alloc, keys);
+        let text = key(&rt, alloc, letters);
+        assert!(rt; removed(&rt, &mut object, removal, letters, &text) == *number);
+        drop(text);
+        assert!(rt; has_keys(&object, left) && object.capacity() == 4);
+        object.shrink_to_fit().expect(&rt, "less room");
+        assert!(rt; has_keys(&object, left) && object.capacity() == left.len());
+        drop(object);
+    }
 }
 
 /// Writes a number to a value, and returns `true` if there is one.
@@ -129,32 +190,26 @@ fn is_put(place: Option<&mut IValue>, number: usize) -> bool {
 
 /// Writes to each of the keys a, c and d, in different ways.
 fn writes(rt: &impl Abort, object: &mut IObject, d: &IString) {
-    assert!(*rt; object.contains_key("c"));
+    assert!(rt; object.contains_key("c"));
     set(&mut object["c"], of_number(7));
-    assert!(*rt; is_put(object.get_mut(d), 8) && is_put(object.value_at_mut(0), 6));
-    assert!(*rt; !is_put(object.value_at_mut(3), 0) && !is_put(object.get_mut("b"), 0));
+    assert!(rt; is_put(object.get_mut(d), 8) && is_put(object.value_at_mut(0), 6));
+    assert!(rt; !is_put(object.value_at_mut(3), 0) && !is_put(object.get_mut("b"), 0));
 }
 
 /// Asserts the number of an existing key, by each way to get it.
 fn holds(rt: &impl Abort, object: &IObject, key: &str, number: usize) {
-    assert!(*rt; matches!(object.get(key), Some(value) if number_of(value) == number));
-    assert!(*rt; number_at(object, key) == number);
-    assert!(*rt; matches!(object.get_key_value(&key), Some((text, _value)) if text.eq_str(key)));
+    assert!(rt; matches!(object.get(key), Some(value) if number_of(value) == number));
+    assert!(rt; number_at(object, key) == number);
+    assert!(rt; matches!(object.get_key_value(&key), Some((text, _value)) if text.eq_str(key)));
 }
 
-/// The remaining keys, and the number written to each.
+/// Keys, and the number written to each.
 static HELD: [(&str, usize); 3] = [("a", 6), ("c", 7), ("d", 8)];
 
-/// b is removed from the keys a to d, and those after it are shifted.
 #[test]
-fn shift_removals_and_writes(rt: HostRuntime) {
+fn written(rt: HostRuntime) {
     let alloc = rt.alloc();
-    let mut object = four(&rt, alloc);
-    assert!(rt; number_in(object.shift_remove("b")) == Some(1));
-    assert!(rt; number_in(object.shift_remove(&"b")).is_none());
-    assert!(rt;
-        is_pair(object.shift_remove_entry("b"), None) && has_keys(&object, &["a", "c", "d"])
-    );
+    let mut object = of_keys(&rt, alloc, &["a", "c", "d"]);
     writes(&rt, &mut object, &key(&rt, alloc, "d"));
     for &(letters, number) in &HELD {
         holds(&rt, &object, letters, number);
@@ -254,6 +309,9 @@ fn room(rt: HostRuntime) {
     insert_new(&rt, &mut object, key(&rt, alloc, "b"), of_number(1));
     object.clear();
     assert!(rt; object.is_empty() && object.capacity() == 8);
+    let none = IObject::new(alloc);
+    assert!(rt; object == none && none.capacity() == 0);
+    drop(none);
     object.reserve(9).expect(&rt, "room");
     assert!(rt; object.capacity() == 16);
     drop(object);
@@ -271,18 +329,6 @@ fn the_limit(rt: HostRuntime) {
     drop(object);
 }
 
-#[test]
-fn room_made_ahead(rt: HostRuntime) {
-    let alloc = rt.alloc();
-    let object = IObject::with_capacity(alloc, 10).expect(&rt, "room");
-    let none = IObject::new(alloc);
-    assert!(rt; object.capacity() == 10 && object == none);
-    drop(none);
-    drop(object);
-    let past = IObject::with_capacity(alloc, 72_057_594_037_927_937);
-    assert!(rt; past.err() == Some(ReserveError::TooLarge));
-}
-
 /// An object of the keys a to c with spare capacity for one is copied.
 ///
 /// The number of c has a fraction point.
@@ -290,15 +336,14 @@ fn room_made_ahead(rt: HostRuntime) {
 fn copied(rt: HostRuntime) {
     let alloc = rt.alloc();
     let mut object = of_keys(&rt, alloc, &["a", "b"]);
-    let number = parsed(&rt, alloc, "2.0");
-    insert_new(&rt, &mut object, key(&rt, alloc, "c"), number);
+    let two = IValue::from(number_spelled(&rt, alloc, "2.0"));
+    insert_new(&rt, &mut object, key(&rt, alloc, "c"), two);
     let copy = object.clone().expect(&rt, "a copy");
     assert!(rt; object.capacity() == 4 && copy.capacity() == 3 && copy == object);
     drop(object);
     assert!(rt; has_keys(&copy, &["a", "b", "c"]) && number_at(&copy, "c") == 2);
-    let value = IValue::from(copy);
-    is_written(&rt, alloc, &value, r#"{"a":0,"b":1,"c":2.0}"#);
-    drop(value);
+    is_shown(&rt, alloc, &copy, r#"{"a": 0, "b": 1, "c": 2.0}"#);
+    drop(copy);
 }
 
 /// Numbers and keys, one of which is a duplicate.
@@ -314,16 +359,35 @@ fn listed(rt: &impl Abort, alloc: Global) -> Vec<(IString, IValue)> {
     pairs
 }
 
+/// Returns the object of a list, by the call that would return the entries or by the one that would drop them.
+fn of_list(
+    rt: &impl Abort,
+    alloc: Global,
+    pairs: Vec<(IString, IValue)>,
+    returns_pairs: bool,
+) -> IObject {
+    if returns_pairs {
+        IObject::try_from_pairs(alloc, pairs).expect(rt, "an object")
+    } else {
+        IObject::from_pairs(alloc, pairs).expect(rt, "an object")
+    }
+}
+
 #[test]
 fn lists_of_pairs(rt: HostRuntime) {
     let alloc = rt.alloc();
-    let object = IObject::from_pairs(alloc, listed(&rt, alloc)).expect(&rt, "an object");
-    assert!(rt; has_keys(&object, &["a", "b"]) && object.capacity() == 3);
-    assert!(rt; number_at(&object, "a") == 3 && number_at(&object, "b") == 2);
-    drop(object);
-    let none = IObject::from_pairs(alloc, Vec::new(alloc)).expect(&rt, "an object");
-    assert!(rt; none.is_empty() && none.capacity() == 0);
-    drop(none);
+    for returns_pairs in [false, true] {
+        let object = of_list(&rt, alloc, listed(&rt, alloc), returns_pairs);
+        assert!(rt; has_keys(&object, &["a", "b"]) && object.capacity() == 3);
+        assert!(rt; number_at(&object, "a") == 3 && number_at(&object, "b") == 2);
+        drop(object);
+        let none = of_list(&rt, alloc, Vec::new(alloc), returns_pairs);
+        assert!(rt; none.is_empty() && none.capacity() == 0);
+        drop(none);
+        let many = of_list(&rt, alloc, numbered(&rt, alloc, 500), returns_pairs);
+        is_numbered(&rt, &many, 500, 500);
+        drop(many);
+    }
 }
 
 /// Returns the entries of the numbers below `count`, each by its digits, in a list with no spare capacity.
@@ -339,26 +403,10 @@ fn numbered(rt: &impl Abort, alloc: Global, count: usize) -> Vec<(IString, IValu
 
 /// Asserts that an object has the entries of the numbers below `count` in order and finds each, and its capacity.
 fn is_numbered(rt: &impl Abort, object: &IObject, count: usize, capacity: usize) {
-    assert!(*rt; object.len() == count && object.capacity() == capacity);
+    assert!(rt; object.len() == count && object.capacity() == capacity);
     for (number, (key, value)) in object.iter().enumerate() {
-        assert!(*rt; number_of(value) == number && number_at(object, key.as_str()) == number);
+        assert!(rt; number_of(value) == number && number_at(object, key.as_str()) == number);
     }
-}
-
-/// Like `lists_of_pairs`, by the call that would return the entries, and for 500 keys.
-#[test]
-fn lists_tried(rt: HostRuntime) {
-    let alloc = rt.alloc();
-    let object = IObject::try_from_pairs(alloc, listed(&rt, alloc)).expect(&rt, "an object");
-    assert!(rt; has_keys(&object, &["a", "b"]) && object.capacity() == 3);
-    assert!(rt; number_at(&object, "a") == 3 && number_at(&object, "b") == 2);
-    drop(object);
-    let none = IObject::try_from_pairs(alloc, Vec::new(alloc)).expect(&rt, "an object");
-    assert!(rt; none.is_empty() && none.capacity() == 0);
-    drop(none);
-    let many = IObject::try_from_pairs(alloc, numbered(&rt, alloc, 500)).expect(&rt, "an object");
-    is_numbered(&rt, &many, 500, 500);
-    drop(many);
 }
 
 /// Builds an object of `count` entries, copies it, grows it for one more and shrinks it.
@@ -414,7 +462,7 @@ fn extends(rt: &impl Abort, alloc: Global, object: &mut IObject, letters: &str) 
     let old = more.insert(key(rt, alloc, letters), of_number(9));
     drop(old.expect(rt, "room"));
     object.extend(more).expect(rt, "room");
-    assert!(*rt; number_at(object, letters) == 9 && number_at(object, "b") == 1);
+    assert!(rt; number_at(object, letters) == 9 && number_at(object, "b") == 1);
 }
 
 #[test]
@@ -437,49 +485,87 @@ fn of_pairs(rt: &impl Abort, alloc: Global, pairs: &[(&str, usize)]) -> IObject 
     object
 }
 
-/// Asserts the number of each key.
-fn has_pairs(rt: &impl Abort, object: &IObject, pairs: &[(&str, usize)]) {
-    for &(letters, number) in pairs {
-        assert!(*rt; number_at(object, letters) == number);
-    }
-}
-
-/// Entries, and the JSON text of their object. The first list has inline and interned keys.
+/// Entries, and the debug output of their object. The first list has inline and interned keys.
 static COLLECTED: [(&[(&str, usize)], &str); 2] = [
     (
         &[("id", 1), ("interned_string_a", 2), ("no", 3)],
-        r#"{"id":1,"interned_string_a":2,"no":3}"#,
+        r#"{"id": 1, "interned_string_a": 2, "no": 3}"#,
     ),
-    (&[("0", 0), ("1", 1), ("2", 2)], r#"{"0":0,"1":1,"2":2}"#),
+    (
+        &[("0", 0), ("1", 1), ("2", 2)],
+        r#"{"0": 0, "1": 1, "2": 2}"#,
+    ),
 ];
 
 #[test]
 fn pairs_are_collected(rt: HostRuntime) {
     let alloc = rt.alloc();
-    for &(pairs, text) in &COLLECTED {
+    for &(pairs, shown) in &COLLECTED {
         let object = IObject::from_iter(alloc, of_pairs(&rt, alloc, pairs));
         let object = object.expect(&rt, "an object");
-        has_pairs(&rt, &object, pairs);
+        for &(letters, number) in pairs {
+            assert!(rt; number_at(&object, letters) == number);
+        }
         assert!(rt; object.len() == 3 && object.capacity() == 4);
-        let read = parsed(&rt, alloc, text);
-        assert!(rt; matches!(read.as_object(), Some(want) if *want == object));
-        drop(read);
+        is_shown(&rt, alloc, &object, shown);
         drop(object);
     }
 }
 
+/// How a map treats its keys.
+#[derive(Clone, Copy)]
+pub enum Keys {
+    Hashes,
+    Sorts,
+    Keeps,
+}
+
+/// Returns the object of a map of the entries of another object.
+pub fn through_map(alloc: Global, object: IObject, keys: Keys) -> Result<IObject, ReserveError> {
+    let pairs = object.into_iter();
+    match keys {
+        Keys::Hashes => {
+            let map: HashMap<IString, IValue> = pairs.collect(alloc)?;
+            IObject::from_hash_map(alloc, map)
+        }
+        Keys::Sorts => {
+            let map: BTreeMap<IString, IValue> = pairs.collect(alloc)?;
+            IObject::from_btree_map(alloc, map)
+        }
+        Keys::Keeps => {
+            let map: IndexMap<IString, IValue> = pairs.collect(alloc)?;
+            IObject::from_index_map(alloc, map)
+        }
+    }
+}
+
+/// An object goes through each map, and has no spare capacity then.
+#[test]
+fn many_pairs_go_through_maps(rt: HostRuntime) {
+    let alloc = rt.alloc();
+    let object = of_list(&rt, alloc, numbered(&rt, alloc, 10_000), false);
+    for keys in [Keys::Hashes, Keys::Sorts, Keys::Keeps] {
+        let copy = object.clone().expect(&rt, "a copy");
+        let again = through_map(alloc, copy, keys).expect(&rt, "an object");
+        assert!(rt; again == object && again.capacity() == 10_000);
+        drop(again);
+    }
+    is_numbered(&rt, &object, 10_000, 10_000);
+    drop(object);
+}
+
 /// Gets the entry of a key, and returns the key, and the number of an existing entry, which is removed.
-pub(super) fn asked(
+pub fn asked(
     rt: &impl Abort,
     object: &mut IObject,
     letters: &str,
     key: IString,
 ) -> (IString, Option<usize>) {
     let entry = object.entry(key).expect(rt, "room");
-    assert!(*rt; entry.key().eq_str(letters));
+    assert!(rt; entry.key().eq_str(letters));
     match entry {
         Entry::Vacant(entry) => {
-            assert!(*rt; entry.key().eq_str(letters));
+            assert!(rt; entry.key().eq_str(letters));
             (entry.into_key(), None)
         }
         Entry::Occupied(entry) => {
@@ -541,37 +627,19 @@ static ASKED: [(&[&str], &str, Option<usize>, &[&str]); 2] = [
     (&["a", "b", "c", "d"], "b", Some(1), &["a", "d", "c"]),
 ];
 
+/// A missing key gets a value once, and a closure is called only if its result is needed.
 #[test]
-fn entries_put_once(rt: HostRuntime) {
+fn entries(rt: HostRuntime) {
     let alloc = rt.alloc();
-    let a = key(&rt, alloc, "a");
+    let (a, k) = (key(&rt, alloc, "a"), key(&rt, alloc, "k"));
     let mut object = IObject::new(alloc);
-    assert!(rt; or_insert(&rt, &mut object, &a, 1) == 1);
-    assert!(rt; or_insert(&rt, &mut object, &a, 2) == 1);
-    let (number, calls) = or_insert_with(&rt, &mut object, &a);
-    assert!(rt; number == 1 && calls == 0);
-    drop(object);
-    drop(a);
-}
-
-#[test]
-fn entries_call_where_nothing_is(rt: HostRuntime) {
-    let alloc = rt.alloc();
-    let mut object = IObject::new(alloc);
-    let (number, calls) = or_insert_with(&rt, &mut object, &key(&rt, alloc, "k"));
-    assert!(rt; number == 3 && calls == 1);
-    assert!(rt; number_at(&object, "k") == 3);
-    drop(object);
-}
-
-#[test]
-fn entries_are_modified(rt: HostRuntime) {
-    let alloc = rt.alloc();
-    let mut object = of_keys(&rt, alloc, &["a", "k"]);
-    assert!(rt; and_modify(&rt, &mut object, key(&rt, alloc, "a")) == 1);
+    assert!(rt; or_insert(&rt, &mut object, &a, 1) == 1 && or_insert(&rt, &mut object, &a, 2) == 1);
+    assert!(rt; or_insert_with(&rt, &mut object, &a) == (1, 0));
+    assert!(rt; or_insert_with(&rt, &mut object, &k) == (3, 1) && number_at(&object, "k") == 3);
+    drop(k);
+    assert!(rt; and_modify(&rt, &mut object, a) == 1 && number_at(&object, "a") == 5);
     assert!(rt; and_modify(&rt, &mut object, key(&rt, alloc, "x")) == 0);
-    assert!(rt; number_at(&object, "a") == 5 && number_at(&object, "x") == 6);
-    assert!(rt; has_keys(&object, &["a", "k", "x"]));
+    assert!(rt; number_at(&object, "x") == 6 && has_keys(&object, &["a", "k", "x"]));
     drop(object);
 }
 
@@ -579,10 +647,10 @@ fn entries_are_modified(rt: HostRuntime) {
 fn occupied(rt: &impl Abort, object: &mut IObject, key: &IString) {
     match object.entry_or_clone(key).expect(rt, "an entry") {
         Entry::Occupied(mut entry) => {
-            assert!(*rt; number_in(Some(entry.insert(of_number(8)))) == Some(1));
+            assert!(rt; number_in(Some(entry.insert(of_number(8)))) == Some(1));
             set(entry.get_mut(), of_number(9));
-            assert!(*rt; entry.key().eq_str("k") && number_of(entry.get()) == 9);
-            assert!(*rt; number_in(Some(entry.remove())) == Some(9));
+            assert!(rt; entry.key().eq_str("k") && number_of(entry.get()) == 9);
+            assert!(rt; number_in(Some(entry.remove())) == Some(9));
         }
         Entry::Vacant(entry) => drop(entry),
     }
@@ -651,29 +719,29 @@ static EVEN: [(usize, &str, usize); 3] = [(3, "0", 0), (2, "4", 40), (1, "2", 20
 fn iterates(rt: &impl Abort, object: &IObject) {
     let mut pairs = object.iter();
     for &(left, _, number) in &EVEN {
-        assert!(*rt; pairs.len() == left);
-        assert!(*rt; matches!(pairs.next(), Some((_key, value)) if number_of(value) == number));
+        assert!(rt; pairs.len() == left);
+        assert!(rt; matches!(pairs.next(), Some((_key, value)) if number_of(value) == number));
     }
-    assert!(*rt; pairs.next().is_none() && pairs.next().is_none());
+    assert!(rt; pairs.next().is_none() && pairs.next().is_none());
 }
 
 /// Iterates over the values alone, and over the keys.
 fn iterates_apart(rt: &impl Abort, object: &IObject) {
     let mut values = object.values();
-    assert!(*rt; values.len() == 3 && object.keys().len() == 3);
+    assert!(rt; values.len() == 3 && object.keys().len() == 3);
     for &(_, _, number) in &EVEN {
-        assert!(*rt; matches!(values.next(), Some(value) if number_of(value) == number));
+        assert!(rt; matches!(values.next(), Some(value) if number_of(value) == number));
     }
-    assert!(*rt; values.next().is_none());
+    assert!(rt; values.next().is_none());
 }
 
 /// Moves the keys 0, 4 and 2 out.
 fn gives_out(rt: &impl Abort, object: IObject) {
     let mut owned = object.into_iter();
     for &(left, key, _) in &EVEN {
-        assert!(*rt; owned.size_hint() == (left, Some(left)) && is_pair(owned.next(), Some(key)));
+        assert!(rt; owned.size_hint() == (left, Some(left)) && is_pair(owned.next(), Some(key)));
     }
-    assert!(*rt; is_pair(owned.next(), None));
+    assert!(rt; is_pair(owned.next(), None));
     drop(owned);
 }
 
@@ -686,7 +754,7 @@ fn retains(rt: &impl Abort, object: &mut IObject) {
         set(value, of_number(number.wrapping_mul(10)));
         number % 2 == 0
     });
-    assert!(*rt; asked == 7015423 && has_keys(object, &["0", "4", "2"]));
+    assert!(rt; asked == 7015423 && has_keys(object, &["0", "4", "2"]));
 }
 
 #[test]

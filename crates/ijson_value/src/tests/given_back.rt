@@ -1,10 +1,10 @@
 //! Removing and replacing keys and values that own memory. `tests/alloc/gives-back` checks that all of it is freed at the end of a test.
 
 use super::key;
+use crate::array::IArray;
+use crate::object::{Entry, IObject};
+use crate::value::IValue;
 use ijson_string::IString;
-use ijson_value::array::IArray;
-use ijson_value::object::{Entry, IObject};
-use ijson_value::value::IValue;
 use std::alloc::Global;
 use std::process::Abort;
 
