@@ -6,7 +6,8 @@ ghost use Rattle.std.specs.Option.{option_copied};
 ghost use Rattle.ijson_table.specs.Store.{at, lookup};
 ghost use Rattle.ijson_value.specs.Tree.{Tree};
 ghost use Rattle.ijson_value.specs.WellFormed.{tree_of};
-ghost use Rattle.ijson_extra.specs.Pointer.{meant, position_named, names_position, child_at, resolved};
+ghost use Rattle.ijson_extra.specs.Pointer.{meant, written_tokens, position_named, names_position, child_at, resolved};
+ghost use Rattle.ijson_extra.specs.private.Walked.{first_of};
 
 mod lend;
 
@@ -54,11 +55,27 @@ pub fn resolve<'a>(value: &'a IValue, pointer: &str) -> Result<Option<&'a IValue
         return Err(PointerError::Syntax);
     };
     let mut found = Some(value);
-    while let Some((token, behind)) = left.split_once('/') {
+    loop {
+        let (token, behind) = split_token(left);
         found = step(found, token)?;
+        let Some(behind) = behind else {
+            return Ok(found);
+        };
         left = behind;
     }
-    step(found, left)
+}
+
+/// Returns the first token, and the text after it, or `None` if there is no other token.
+fn split_token(left: &str) -> (&str, Option<&str>)
+    ensures first { result.0.now ≡ first_of left.now }
+    ensures some { IfSome result.1 (λ behind. (length behind.now < length left.now)
+        × (written_tokens left.now ≡ first_of left.now ∷ written_tokens behind.now)) }
+    ensures none { IfNone result.1 (written_tokens left.now ≡ first_of left.now ∷ []) }
+{
+    match left.split_once('/') {
+        Some((token, behind)) => (token, Some(behind)),
+        None => (left, None),
+    }
 }
 
 /// JSON Pointers (RFC 6901) as a method of values. Import the trait to call it.
