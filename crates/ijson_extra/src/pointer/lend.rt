@@ -10,7 +10,10 @@ ghost use Rattle.ijson_extra.specs.Pointer.{all_meant, tokens_of, written_tokens
 ghost use Rattle.ijson_extra.specs.private.Walked.{LendsNamedInside, LendsNamedItem, LendsNamedMember, LendsNamed};
 ghost use Rattle.ijson_extra.specs.private.Walked.{tree_lent, node_tree, first_of, found_at, written_at};
 
-use super::{Pointer, PointerError, find_member, is_token, position_below, split_token};
+use super::{
+    Pointer, PointerError, after_slash, find_member, has_escape, is_token, position_below,
+    split_token,
+};
 use ijson_value::array::IArray;
 use ijson_value::object::IObject;
 use ijson_value::value::{Destructured, IValue};
@@ -112,7 +115,7 @@ pub(super) fn inside<'a>(opened: &'a mut Destructured, pointer: &str) -> Option<
     ensures* writes_back { sem 𝓛 (LendsNamedInside opened.entry pointer.now result) }
     ensures value { tree_lent result ≡ found_at (node_tree opened.old) pointer.now }
 {
-    match pointer.strip_prefix('/') {
+    match after_slash(pointer) {
         Some(left) => walk(opened, left),
         None => None,
     }
@@ -122,7 +125,7 @@ pub(super) fn inside<'a>(opened: &'a mut Destructured, pointer: &str) -> Option<
 fn is_pointer(pointer: &str) -> bool
     ensures { result ≡ is_some (tokens_of pointer.now) }
 {
-    match pointer.strip_prefix('/') {
+    match after_slash(pointer) {
         Some(left) => are_tokens(left),
         None => pointer.is_empty(),
     }
@@ -206,7 +209,7 @@ fn member_mut<'a>(object: &'a mut IObject, token: &str) -> Option<&'a mut IValue
     ensures* writes_back { sem 𝓛 (LendsNamedMember object.entry token.now result) }
     ensures value { tree_lent result ≡ written_at (object_tree object.old.pairs) token.now }
 {
-    if !token.contains('~') {
+    if !has_escape(token) {
         return object.get_mut(token);
     }
     match find_member(object, token) {
