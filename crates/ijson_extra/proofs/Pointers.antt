@@ -8,6 +8,7 @@ use Rattle.std.proofs.lemmas.List.{drop_all, drop_more}
 use Rattle.std.proofs.lemmas.Bool.Decides.{nat_tests}
 use Rattle.ijson_value.specs.Tree.{Tree}
 use Rattle.ijson_extra.specs.Pointer.{in_first, written_tokens, meant, escape_meant, all_meant, child_at, followed}
+use Rattle.ijson_extra.specs.private.Walked.{first_of}
 
 abbrev pub LacksByte : ℕ → List ℕ → Type 0
 LacksByte c text = (i : ℕ) → i < length text → get_or text i 0 ≢ c
@@ -29,57 +30,30 @@ written_last [] h = refl
 written_last (b ∷ token) h =
     in_token b token (ne_eqb b 47 (h 0 (omega arith))) ∙ ap (in_first b) (written_last token (tail_lacks 47 b token h))
 
+-- there is a first token
+abbrev HasFirst : List (List ℕ) → Type 0
+HasFirst ws = (more : List (List ℕ)) × (ws ≡ get_or ws 0 [] ∷ more)
+
+in_first_too : (b : ℕ) (ws : List (List ℕ)) → HasFirst ws → HasFirst (in_first b ws)
+in_first_too b [] is = absurd (let e = is.1 in cc)
+in_first_too b (w ∷ ws) is = (ws, refl)
+
+pub by_tests : {X : Type 0} (P : X → Type 0) (r : Bool) (x y : X) → P x → P y → P (elim r [ true ↦ x | false ↦ y ])
+by_tests P true x y p q = p
+by_tests P false x y p q = q
+
+pub first_is : (left : List ℕ) → HasFirst (written_tokens left)
+first_is [] = ([], refl)
+first_is (b ∷ text) =
+    by_tests HasFirst (eqb b 47) _ _ (written_tokens text, refl) (in_first_too b (written_tokens text) (first_is text))
+
+pub first_named : (text token : List ℕ) (ws : List (List ℕ)) → written_tokens text ≡ token ∷ ws
+    → (token ≡ first_of text) × (written_tokens text ≡ first_of text ∷ ws)
+first_named text token ws is = let first = sym (ap (λ ws. get_or ws 0 []) is) in (first, is ∙ ap (λ t. t ∷ ws) first)
+
 -- the result for a value found so far, or none, and the rest of the pointer
 abbrev pub outcome : Option Tree → List ℕ → Option (Option Tree)
 outcome found left = option_map (λ tokens. option_and_then (λ t. followed t tokens) found) (all_meant (written_tokens left))
-
-abbrev stepped : Option Tree → List ℕ → Option Tree
-stepped found m = option_and_then (λ t. child_at t m) found
-
-abbrev of_list : Option Tree → List (List ℕ) → Option (Option Tree)
-of_list found ws = option_map (λ tokens. option_and_then (λ t. followed t tokens) found) (all_meant ws)
-
-one_on : (found : Option Tree) (m : List ℕ) (tokens : Option (List (List ℕ)))
-    → option_map (λ ts. option_and_then (λ t. followed t ts) found) (option_map (λ ts. m ∷ ts) tokens)
-    ≡ option_map (λ ts. option_and_then (λ t. followed t ts) (stepped found m)) tokens
-one_on found m None = refl
-one_on None m (Some ts) = refl
-one_on (Some t) m (Some ts) = refl
-
-head_meant : (found : Option Tree) (token m : List ℕ) (ws : List (List ℕ)) → meant token ≡ Some m
-    → of_list found (token ∷ ws) ≡ of_list (stepped found m) ws
-head_meant found token m ws e =
-    ap (λ o. option_map (λ ts. option_and_then (λ t. followed t ts) found)
-    (option_and_then (λ x. option_map (λ ts. x ∷ ts) (all_meant ws)) o)) e ∙ one_on found m (all_meant ws)
-
-head_none : (found : Option Tree) (token : List ℕ) (ws : List (List ℕ)) → meant token ≡ None → of_list found (token ∷ ws) ≡ None
-head_none found token ws e =
-    ap (λ o. option_map (λ ts. option_and_then (λ t. followed t ts) found)
-    (option_and_then (λ x. option_map (λ ts. x ∷ ts) (all_meant ws)) o)) e
-
--- a token before a `/`
-pub token_meant : (found : Option Tree) (text token rest m : List ℕ) → text ≡ token ++ 47 ∷ rest → LacksByte 47 token → meant token ≡ Some m
-    → outcome found text ≡ outcome (stepped found m) rest
-token_meant found text token rest m is h e = ap (of_list found) (ap written_tokens is ∙ written_split token rest h)
-    ∙ head_meant found token m (written_tokens rest) e
-
-pub token_none : (found : Option Tree) (text token rest : List ℕ) → text ≡ token ++ 47 ∷ rest → LacksByte 47 token → meant token ≡ None
-    → outcome found text ≡ None
-token_none found text token rest is h e = ap (of_list found) (ap written_tokens is ∙ written_split token rest h)
-    ∙ head_none found token (written_tokens rest) e
-
-ended : (found : Option Tree) → option_and_then (λ t. followed t []) found ≡ found
-ended None = refl
-ended (Some t) = refl
-
--- the last token
-pub last_meant : (found : Option Tree) (token m : List ℕ) → LacksByte 47 token → meant token ≡ Some m
-    → outcome found token ≡ Some (stepped found m)
-last_meant found token m h e = ap (of_list found) (written_last token h) ∙ head_meant found token m [] e
-    ∙ ap (λ x. Some x) (ended (stepped found m))
-
-pub last_none : (found : Option Tree) (token : List ℕ) → LacksByte 47 token → meant token ≡ None → outcome found token ≡ None
-last_none found token h e = ap (of_list found) (written_last token h) ∙ head_none found token [] e
 
 -- ---- the meaning of a token
 pub tilde : (b : ℕ) (text : List ℕ) → eqb b 126 ≡ false → meant (b ∷ text) ≡ option_map (λ token. b ∷ token) (meant text)
@@ -95,10 +69,6 @@ meant_itself (b ∷ token) h = tilde b token (ne_eqb b 126 (h 0 (omega arith)))
 some_longer : (b : ℕ) (o : Option (List ℕ)) → option_map (λ token. b ∷ token) o ≡ Some [] → ⊥
 some_longer b None e = absurd (cc)
 some_longer b (Some t) e = absurd (cc)
-
-pub by_tests : {X : Type 0} (P : X → Type 0) (r : Bool) (x y : X) → P x → P y → P (elim r [ true ↦ x | false ↦ y ])
-by_tests P true x y p q = p
-by_tests P false x y p q = q
 
 escape_longer : (text : List ℕ) → escape_meant text ≡ Some [] → ⊥
 escape_longer [] e = absurd (cc)

@@ -1,4 +1,3 @@
 pub mod Arranged
 pub mod InOrder
-pub mod Permuted
 pub mod Words

@@ -1,5 +1,4 @@
 pub mod Children
-pub mod Counted
 pub mod NamedParts
 pub mod Options
 pub mod Positions

@@ -1,12 +1,13 @@
 //! JSON Pointer (RFC 6901): finding a value inside a value by a path.
 ghost use Rattle.std.specs.Prelude.{◌≡◌, ◌<◌, ◌≤◌, ◌⊎◌, ◌∷◌, ℕ, List, [], length, Some, None, option_map, option_and_then};
-ghost use Rattle.std.specs.Prelude.{is_some, Contains, IfOk, IfErr, IfSome, IfNone, IsTrue, ◌↔◌, slice_get};
+ghost use Rattle.std.specs.Prelude.{is_some, Contains, IfOk, IfErr, IfSome, IfNone, IsTrue, IsFalse, ◌↔◌, slice_get};
 ghost use Rattle.std.specs.Str.{all_ascii_digits};
 ghost use Rattle.std.specs.Option.{option_copied};
 ghost use Rattle.ijson_table.specs.Store.{at, lookup};
 ghost use Rattle.ijson_value.specs.Tree.{Tree};
 ghost use Rattle.ijson_value.specs.WellFormed.{tree_of};
-ghost use Rattle.ijson_extra.specs.Pointer.{meant, position_named, names_position, child_at, resolved};
+ghost use Rattle.ijson_extra.specs.Pointer.{meant, written_tokens, tokens_of, position_named, names_position, child_at, resolved};
+ghost use Rattle.ijson_extra.specs.private.Walked.{first_of};
 
 mod lend;
 
@@ -50,15 +51,39 @@ pub fn resolve<'a>(value: &'a IValue, pointer: &str) -> Result<Option<&'a IValue
     if pointer.is_empty() {
         return Ok(Some(value));
     }
-    let Some(mut left) = pointer.strip_prefix('/') else {
+    let Some(mut left) = after_slash(pointer) else {
         return Err(PointerError::Syntax);
     };
     let mut found = Some(value);
-    while let Some((token, behind)) = left.split_once('/') {
+    loop {
+        let (token, behind) = split_token(left);
         found = step(found, token)?;
+        let Some(behind) = behind else {
+            return Ok(found);
+        };
         left = behind;
     }
-    step(found, left)
+}
+
+/// Returns the tokens of a pointer that is not empty, or `None` if the text does not begin with `/`.
+fn after_slash(pointer: &str) -> Option<&str>
+    ensures some { IfSome result (λ left. pointer.now ≡ 47 ∷ left.now) }
+    ensures none { IfNone result (pointer.now ≡ [] ⊎ tokens_of pointer.now ≡ None) }
+{
+    pointer.strip_prefix('/')
+}
+
+/// Returns the first token, and the text after it, or `None` if there is no other token.
+fn split_token(left: &str) -> (&str, Option<&str>)
+    ensures first { result.0.now ≡ first_of left.now }
+    ensures some { IfSome result.1 (λ behind. (length behind.now < length left.now)
+        × (written_tokens left.now ≡ first_of left.now ∷ written_tokens behind.now)) }
+    ensures none { IfNone result.1 (written_tokens left.now ≡ first_of left.now ∷ []) }
+{
+    match left.split_once('/') {
+        Some((token, behind)) => (token, Some(behind)),
+        None => (left, None),
+    }
 }
 
 /// JSON Pointers (RFC 6901) as a method of values. Import the trait to call it.
@@ -200,13 +225,21 @@ fn member<'a>(object: &'a IObject, token: &str) -> Option<&'a IValue>
     ensures { (m : List ℕ) → meant token.now ≡ Some m
         → option_copied result ≡ lookup m object.now.pairs }
 {
-    if !token.contains('~') {
+    if !has_escape(token) {
         return object.get(token);
     }
     match find_member(object, token) {
         Some((_, value)) => Some(value),
         None => None,
     }
+}
+
+/// Returns `true` if a token contains a `~`; any other means itself.
+fn has_escape(token: &str) -> bool
+    ensures escape { IsTrue result → Contains token.now 126 }
+    ensures itself { IsFalse result → meant token.now ≡ Some token.now }
+{
+    token.contains('~')
 }
 
 /// Returns the index and the value of the key that a token with `~` means.

@@ -1,10 +1,9 @@
 -- The value that a token refers to in a value, from its list of elements or entries.
-use Rattle.std.proofs.Common.{◌≡◌, ℕ, Bool, true, false, List, [], ◌∷◌, Option, Some, None, option_map}
-use Rattle.std.proofs.Common.{option_copied, eqb, is_some, length, refl, sym, ap, ◌∙◌}
-use Rattle.std.specs.Prelude.{◌==◌, ◌≢◌, option_and_then, slice_get}
+use Rattle.std.proofs.Common.{◌≡◌, ◌⊎◌, inl, inr, ℕ, Bool, true, false, List, [], ◌∷◌, Option, Some, None, option_map}
+use Rattle.std.proofs.Common.{option_copied, eqb, refl, sym, ap, ◌∙◌}
+use Rattle.std.specs.Prelude.{◌≢◌, IfSome, IfNone, MatchOption, option_and_then, slice_get}
 use Rattle.std.proofs.lemmas.Bool.{eqb-true}
 use denote.Ref.{Bor}
-use mathlib.Core.Bool.{true≢false}
 use Rattle.ijson_table.specs.Store.{Store, lookup}
 use Rattle.ijson_value.specs.Step.{by_position, tree_at}
 use Rattle.ijson_value.specs.Values.{array_tree, array_value, object_value}
@@ -12,8 +11,7 @@ use Rattle.ijson_value.specs.laws.Steps.{item_at, value_at}
 use Rattle.ijson_value.proofs.Found.{found_tree}
 use Rattle.ijson_value.specs.WellFormed.{WellFormed, tree_of}
 use Rattle.ijson_value.specs.Tree.{Tree}
-use Rattle.ijson_extra.specs.Pointer.{meant, all_meant, written_tokens, position_named, tokens_of, child_at, followed, resolved}
-use Rattle.ijson_extra.proofs.Pointers.{none_zero}
+use Rattle.ijson_extra.specs.Pointer.{meant, all_meant, written_tokens, position_named, tokens_of, child_at}
 use Rattle.ijson_extra.proofs.tokens.Positions.{same_position}
 
 item_named : (vs : List WellFormed) (o : Option ℕ)
@@ -41,14 +39,11 @@ begins_by : (b : ℕ) (text : List ℕ) (r : Bool) → eqb b 47 ≡ r → ((rest
 begins_by b text true e h = absurd (h text (ap (λ c. c ∷ text) (eqb-true b 47 e)))
 begins_by b text false e h = ap (λ (r : Bool). elim r [ true ↦ all_meant (written_tokens text) | false ↦ None ]) e
 
-pub no_tokens : (text : List ℕ) (r : Bool) → r ≡ (length text == 0) → ((rest : List ℕ) → text ≢ 47 ∷ rest) → r ≡ is_some (tokens_of text)
-no_tokens [] r e h = e
-no_tokens (b ∷ text) r e h = e ∙ sym (none_zero (length text)) ∙ sym (ap is_some (begins_by b text (eqb b 47) refl h))
+no_slash : (text : List ℕ) → ((rest : List ℕ) → text ≢ 47 ∷ rest) → (text ≡ []) ⊎ (tokens_of text ≡ None)
+no_slash [] h = inl refl
+no_slash (b ∷ text) h = inr (begins_by b text (eqb b 47) refl h)
 
-pub no_pointer : (t : Tree) (text : List ℕ) → (length text == 0) ≡ false → ((rest : List ℕ) → text ≢ 47 ∷ rest) → resolved t text ≡ None
-no_pointer t [] e h = absurd (true≢false e)
-no_pointer t (b ∷ text) e h = ap (option_map (followed t)) (begins_by b text (eqb b 47) refl h)
-
-pub not_empty : (text : List ℕ) → (text ≡ [] → ⊥) → (length text == 0) ≡ false
-not_empty [] h = absurd (h refl)
-not_empty (b ∷ text) h = sym (none_zero (length text))
+pub slash : (text : List ℕ) (r : Option (Bor (List ℕ))) → MatchOption r ((rest : List ℕ) → text ≢ 47 ∷ rest) (λ left. text ≡ 47 ∷ left.now)
+    → IfSome r (λ left. text ≡ 47 ∷ left.now) × IfNone r ((text ≡ []) ⊎ (tokens_of text ≡ None))
+slash text None is = (tt, no_slash text is)
+slash text (Some left) is = (is, tt)

@@ -28,33 +28,27 @@ position_digits (b ∷ c ∷ token) e = (and_parts (not (b == 48)) (all_ascii_di
 pub digits_meant : (token : List ℕ) → all_ascii_digits token ≡ true → meant token ≡ Some token
 digits_meant token e = meant_itself token (not_in_digits own token 126 e not_digit)
 
--- digits cannot be the meaning of a text that begins with an escape
-no_escape : (b : ℕ) (o : Option (List ℕ)) (m : List ℕ) → is_ascii_digit b ≡ false → option_map (λ token. b ∷ token) o ≡ Some m
-    → all_ascii_digits m ≡ true → ⊥
-no_escape b None m n e h = absurd (cc)
-no_escape b (Some t) m n e h =
-    true≢false (sym (and_parts (is_ascii_digit b) (all_ascii_digits t) (ap all_ascii_digits (same_Some (b ∷ t) m e) ∙ h)).0 ∙ n)
+-- the first byte and the rest of the meaning of a text, if both are digits
+with_first : (b : ℕ) (o : Option (List ℕ)) (m : List ℕ) → option_map (λ token. b ∷ token) o ≡ Some m → all_ascii_digits m ≡ true
+    → (n : List ℕ) × (o ≡ Some n) × (b ∷ n ≡ m) × (is_ascii_digit b ≡ true) × (all_ascii_digits n ≡ true)
+with_first b None m e h = absurd (cc)
+with_first b (Some n) m e h =
+    let is = same_Some (b ∷ n) m e in let both = and_parts (is_ascii_digit b) (all_ascii_digits n) (ap all_ascii_digits is ∙ h) in
+    (n, refl, is, both.0, both.1)
 
+-- digits cannot be the meaning of a text that begins with an escape
 no_escapes : (text m : List ℕ) → escape_meant text ≡ Some m → all_ascii_digits m ≡ true → ⊥
 no_escapes [] m e h = absurd (cc)
 no_escapes (b ∷ text) m e h =
-    by_tests (λ o. o ≡ Some m → ⊥) (eqb b 48) _ _ (λ f. no_escape 126 (meant text) m refl f h)
-    (by_tests (λ o. o ≡ Some m → ⊥) (eqb b 49) _ _ (λ f. no_escape 47 (meant text) m refl f h) (λ f. absurd (cc))) e
-
-same_tail : (b : ℕ) (text m : List ℕ) (o : Option (List ℕ)) → meant text ≡ o
-    → ((n : List ℕ) → meant text ≡ Some n → all_ascii_digits n ≡ true → text ≡ n) → option_map (λ token. b ∷ token) o ≡ Some m
-    → all_ascii_digits m ≡ true → b ∷ text ≡ m
-same_tail b text m None is back e h = absurd (cc)
-same_tail b text m (Some t) is back e h =
-    let all : all_ascii_digits (b ∷ t) ≡ true = ap all_ascii_digits (same_Some (b ∷ t) m e) ∙ h in
-    ap (λ x. b ∷ x) (back t is (and_parts (is_ascii_digit b) (all_ascii_digits t) all).1) ∙ same_Some (b ∷ t) m e
+    by_tests (λ o. o ≡ Some m → ⊥) (eqb b 48) _ _ (λ f. true≢false (sym (with_first 126 (meant text) m f h).3))
+    (by_tests (λ o. o ≡ Some m → ⊥) (eqb b 49) _ _ (λ f. true≢false (sym (with_first 47 (meant text) m f h).3)) (λ f. absurd (cc))) e
 
 -- a token that means digits consists of them
 digits_back : (token m : List ℕ) → meant token ≡ Some m → all_ascii_digits m ≡ true → token ≡ m
 digits_back [] m e h = same_Some [] m e
 digits_back (b ∷ text) m e h =
     by_tests (λ o. o ≡ Some m → b ∷ text ≡ m) (eqb b 126) _ _ (λ f. absurd (no_escapes text m f h))
-    (λ f. same_tail b text m (meant text) refl (λ n. digits_back text n) f h) e
+    (λ f. let rest = with_first b (meant text) m f h in ap (λ x. b ∷ x) (digits_back text rest.0 rest.1 rest.4) ∙ rest.2) e
 
 pub not_named : (token : List ℕ) → names_position token ≡ false → position_named token ≡ None
 not_named token e = ap (λ (r : Bool). elim r [ true ↦ Some (digits_value 10 token) | false ↦ None ]) e

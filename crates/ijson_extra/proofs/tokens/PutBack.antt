@@ -1,10 +1,11 @@
 -- Replacing a part by itself changes nothing.
-use Rattle.std.proofs.Common.{◌≡◌, ◌⊎◌, inl, inr, ℕ, zero, suc, true, false, List, Option, Some, None, refl, sym, ap, ◌∙◌}
+use Rattle.std.proofs.Common.{◌≡◌, inl, inr, ℕ, zero, suc, List, Option, Some, None, refl, sym, ap, ◌∙◌}
 use Rattle.std.specs.Prelude.{option_and_then, slice_get, set}
-use Rattle.std.specs.Str.{bytes_eq}
+use Rattle.std.specs.Cmp.Lexicographic.{bytes_decides}
 use Rattle.std.proofs.lemmas.Option.{same_Some}
 use Rattle.ijson_table.specs.Store.{lookup, put}
 use Rattle.ijson_table.proofs.pairs.KeyPositions.{same_key}
+use Rattle.ijson_value.proofs.comparing.SameSteps.{other_bytes}
 use Rattle.ijson_value.specs.Step.{Step, by_position, by_key, tree_at, tree_with}
 use Rattle.ijson_value.specs.Tree.{Tree, array, object, Items, no_items, item, items_of, items_list, Members}
 use Rattle.ijson_value.specs.Tree.{no_members, member, members_of, members_list}
@@ -19,25 +20,13 @@ item_same no_items i u e = not_both u e
 item_same (item t ts) zero u e = ap (λ v. item v (items_of (items_list ts))) (sym (same_Some t u e)) ∙ ap (item t) (items_of-list ts)
 item_same (item t ts) (suc i) u e = ap (item t) (item_same ts i u e)
 
-same_both : (j k : List ℕ) → ((bytes_eq j k ≡ true) × (bytes_eq k j ≡ true)) ⊎ ((bytes_eq j k ≡ false) × (bytes_eq k j ≡ false))
-same_both j k = elim (same_key j k) [
-  | inl a ↦ elim (same_key k j) [
-    | inl b ↦ inl (a.0, b.0)
-    | inr b ↦ absurd (b.1 (sym a.1))
-  ]
-  | inr a ↦ elim (same_key k j) [
-    | inl b ↦ absurd (a.1 (sym b.1))
-    | inr b ↦ inr (a.0, b.0)
-  ]
-]
-
 member_same : (ps : Members) (key : List ℕ) (u : Tree) → lookup key (members_list ps) ≡ Some u
     → members_of (put (members_list ps) key u) ≡ ps
 member_same no_members key u e = not_both u e
-member_same (member k t ps) key u e = elim (same_both k key) [
-  | inl s ↦ rw s.0 (ap (λ v. member k v (members_of (members_list ps))) (sym (same_Some t u (rw s.1 at e)))
-      ∙ ap (member k t) (members_of-list ps))
-  | inr s ↦ rw s.0 (ap (member k t) (member_same ps key u (rw s.1 at e)))
+member_same (member k t ps) key u e = elim (same_key k key) [
+  | inl s ↦ rw s.0 (ap (λ v. member k v (members_of (members_list ps)))
+      (sym (same_Some t u (rw ((bytes_decides key k).1 (sym s.1)) at e))) ∙ ap (member k t) (members_of-list ps))
+  | inr s ↦ rw s.0 (ap (member k t) (member_same ps key u (rw (other_bytes key k (λ f. s.1 (sym f))) at e)))
 ]
 
 tree_same : (t : Tree) (step : Step) (u : Tree) → tree_at t step ≡ Some u → tree_with t step u ≡ t

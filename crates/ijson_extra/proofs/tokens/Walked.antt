@@ -5,22 +5,9 @@ use Rattle.ijson_value.specs.Tree.{Tree}
 use Rattle.ijson_extra.specs.Pointer.{in_first, meant, all_meant, written_tokens, child_at, child_with, followed, followed_with, tokens_with}
 use Rattle.ijson_extra.specs.Pointer.{resolved_with}
 use Rattle.ijson_extra.specs.private.Walked.{written_at, meant_with, written_with, first_of, found_at}
-use Rattle.ijson_extra.proofs.Pointers.{by_tests}
+use Rattle.ijson_extra.proofs.Pointers.{first_is}
 use Rattle.ijson_extra.proofs.tokens.Options.{not_both}
 use Rattle.ijson_extra.proofs.tokens.PutBack.{meant_same}
-
--- there is a first token
-abbrev HasFirst : List (List ℕ) → Type 0
-HasFirst ws = (more : List (List ℕ)) × (ws ≡ get_or ws 0 [] ∷ more)
-
-in_first_too : (b : ℕ) (ws : List (List ℕ)) → HasFirst ws → HasFirst (in_first b ws)
-in_first_too b [] is = absurd (let e = is.1 in cc)
-in_first_too b (w ∷ ws) is = (ws, refl)
-
-first_is : (left : List ℕ) → HasFirst (written_tokens left)
-first_is [] = ([], refl)
-first_is (b ∷ text) =
-    by_tests HasFirst (eqb b 47) _ _ (written_tokens text, refl) (in_first_too b (written_tokens text) (first_is text))
 
 -- the tokens, if the first one and the others mean something
 abbrev joined : Option (List ℕ) → Option (List (List ℕ)) → Option (List (List ℕ))

@@ -10,7 +10,10 @@ ghost use Rattle.ijson_extra.specs.Pointer.{all_meant, tokens_of, written_tokens
 ghost use Rattle.ijson_extra.specs.private.Walked.{LendsNamedInside, LendsNamedItem, LendsNamedMember, LendsNamed};
 ghost use Rattle.ijson_extra.specs.private.Walked.{tree_lent, node_tree, first_of, found_at, written_at};
 
-use super::{Pointer, PointerError, find_member, is_token, position_below};
+use super::{
+    Pointer, PointerError, after_slash, find_member, has_escape, is_token, position_below,
+    split_token,
+};
 use ijson_value::array::IArray;
 use ijson_value::object::IObject;
 use ijson_value::value::{Destructured, IValue};
@@ -112,7 +115,7 @@ pub(super) fn inside<'a>(opened: &'a mut Destructured, pointer: &str) -> Option<
     ensures* writes_back { sem 𝓛 (LendsNamedInside opened.entry pointer.now result) }
     ensures value { tree_lent result ≡ found_at (node_tree opened.old) pointer.now }
 {
-    match pointer.strip_prefix('/') {
+    match after_slash(pointer) {
         Some(left) => walk(opened, left),
         None => None,
     }
@@ -122,7 +125,7 @@ pub(super) fn inside<'a>(opened: &'a mut Destructured, pointer: &str) -> Option<
 fn is_pointer(pointer: &str) -> bool
     ensures { result ≡ is_some (tokens_of pointer.now) }
 {
-    match pointer.strip_prefix('/') {
+    match after_slash(pointer) {
         Some(left) => are_tokens(left),
         None => pointer.is_empty(),
     }
@@ -133,13 +136,16 @@ fn are_tokens(tokens: &str) -> bool
     ensures { result ≡ is_some (all_meant (written_tokens tokens.now)) }
 {
     let mut left = tokens;
-    while let Some((token, behind)) = left.split_once('/') {
+    loop {
+        let (token, behind) = split_token(left);
         if !is_token(token) {
             return false;
         }
+        let Some(behind) = behind else {
+            return true;
+        };
         left = behind;
     }
-    is_token(left)
 }
 
 /// Follows the tokens of `left` to a value.
@@ -163,17 +169,7 @@ fn first_mut<'a>(opened: &'a mut Destructured, left: &str) -> Option<&'a mut IVa
     ensures* writes_back { sem 𝓛 (LendsNamed opened.entry (first_of left.now) result) }
     ensures value { tree_lent result ≡ written_at (node_tree opened.old) (first_of left.now) }
 {
-    child_mut(opened, first_token(left))
-}
-
-/// Returns the first token.
-fn first_token(left: &str) -> &str
-    ensures { result.now ≡ first_of left.now }
-{
-    match left.split_once('/') {
-        Some((token, _)) => token,
-        None => left,
-    }
+    child_mut(opened, split_token(left).0)
 }
 
 /// Returns the text after the first token, or `None` if there is no other token.
@@ -182,10 +178,7 @@ fn behind_first(left: &str) -> Option<&str>
         × (written_tokens left.now ≡ first_of left.now ∷ written_tokens behind.now)) }
     ensures none { IfNone result (written_tokens left.now ≡ first_of left.now ∷ []) }
 {
-    match left.split_once('/') {
-        Some((_, behind)) => Some(behind),
-        None => None,
-    }
+    split_token(left).1
 }
 
 /// Returns a mutable reference to the value that a token refers to.
@@ -216,7 +209,7 @@ fn member_mut<'a>(object: &'a mut IObject, token: &str) -> Option<&'a mut IValue
     ensures* writes_back { sem 𝓛 (LendsNamedMember object.entry token.now result) }
     ensures value { tree_lent result ≡ written_at (object_tree object.old.pairs) token.now }
 {
-    if !token.contains('~') {
+    if !has_escape(token) {
         return object.get_mut(token);
     }
     match find_member(object, token) {

@@ -6,11 +6,11 @@ use Rattle.ijson_extra.proofs.Pointers.{outcome}
 use Rattle.ijson_extra.proofs.pointer.resolve.Given as goal
 
 -- the result for the pointer is that for the value found so far and the rest
-abbrev pub invariant-loop-token : goal.invariant-loop-token
-invariant-loop-token l = record {
+abbrev pub invariant-loop-found : goal.invariant-loop-found
+invariant-loop-found l = record {
   utf8 : shadow (Utf8 l.left);
   same : resolved l.fn.value.tree l.fn.pointer ≡ outcome (option_map (λ v. v.now.tree) l.found) l.left;
 }
 
-abbrev pub decreases-loop-token : goal.decreases-loop-token
-decreases-loop-token l = length l.left
+abbrev pub decreases-loop-found : goal.decreases-loop-found
+decreases-loop-found l = length l.left

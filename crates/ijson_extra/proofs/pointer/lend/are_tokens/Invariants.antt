@@ -6,11 +6,11 @@ use Rattle.ijson_extra.specs.Pointer.{all_meant, written_tokens}
 use Rattle.ijson_extra.proofs.pointer.lend.are_tokens.Given as goal
 
 -- all tokens so far mean something
-abbrev pub invariant-loop-token : goal.invariant-loop-token
-invariant-loop-token l = record {
+abbrev pub invariant-loop-behind : goal.invariant-loop-behind
+invariant-loop-behind l = record {
   utf8 : shadow (Utf8 l.left);
   same : is_some (all_meant (written_tokens l.fn.tokens)) ≡ is_some (all_meant (written_tokens l.left));
 }
 
-abbrev pub decreases-loop-token : goal.decreases-loop-token
-decreases-loop-token l = length l.left
+abbrev pub decreases-loop-behind : goal.decreases-loop-behind
+decreases-loop-behind l = length l.left

@@ -1,20 +1,13 @@
-use Rattle.std.proofs.Common.{◌≡◌, ◌∙◌, Contains, false, rules, refl, sym, subst, ap, arith, List, ℕ}
+use Rattle.std.proofs.Common.{◌∙◌, refl, sym, ap, List, ℕ}
 use Rattle.std.specs.Prelude.{option_and_then}
-use Rattle.std.proofs.lemmas.List.Elements.{Contains-get_or}
-use Rattle.std.proofs.lemmas.Str.Pattern.{contains_char}
-use mathlib.Core.Bool.{true≢false}
 use Rattle.ijson_table.specs.Store.{lookup}
 use Rattle.ijson_value.specs.WellFormed.{WellFormed}
-use Rattle.ijson_extra.proofs.Pointers.{meant_itself}
 use Rattle.ijson_extra.proofs.tokens.NamedParts.{member_found, member_missing, member_put, place_found, place_put}
 use Rattle.ijson_extra.proofs.pointer.lend.member_mut.Goals as goal
 
-pub returns-then-not-contains : goal.returns-then-not-contains
-returns-then-not-contains c =
-    let o = c.args.object.now in let token = c.args.token.now in
-    let none : c.contains.result ≡ false = search rules in
-    let found = contains_char 126 token c.contains.result c.contains.ensures.cases (omega arith) in
-    let itself = meant_itself token (λ i l is. true≢false (sym (found.1 i l is) ∙ none)) in
+pub returns-then-not-has_escape : goal.returns-then-not-has_escape
+returns-then-not-has_escape c =
+    let o = c.args.object.now in let token = c.args.token.now in let itself = c.if-not-has_escape.ensures.itself refl in
     let lent = member_found o.pairs token c.get_mut.result (c.get_mut.ensures.value
     ∙ ap (option_and_then (λ key. lookup key o.pairs)) (sym itself)) in (
       (refl, (λ w. member_put o token token c.get_mut.result w itself lent), refl),
@@ -35,9 +28,3 @@ returns-in-None c = (
   (refl, (λ w. tt), refl),
   member_missing c.args.object.now.pairs c.args.token.now c.in-None.ensures.value,
 )
-
-pub find_member-requires : goal.find_member-requires
-find_member-requires c =
-    let token = c.args.token.now in
-    let found = (contains_char 126 token c.contains.result c.contains.ensures.cases (omega arith)).0 c.if-not-contains.false in
-    subst (Contains token) found.2 (Contains-get_or token found.0 0 found.1)
