@@ -18,11 +18,11 @@ joined : (ts us : List Tree) → texts (ts ++ us) ≡ texts ts ++ texts us
 joined [] us = refl
 joined (t ∷ ts) us = ap (λ l. texts_of t ++ l) (joined ts us) ∙ sym (append_assoc (texts_of t) (texts ts) (texts us))
 
-module _ {X Y : Type 0} (ts us : List Tree) (old : List WellFormed) (before : Texts) where
+module _ {X : Type 0} {ts : List Tree} {old : List WellFormed} {before : Texts} where
   -- if the first step fails, both do
-  pub first_fails : (new : List WellFormed) (after : Texts) (e : ConvertError) → Pushes {X = X} ts old new before after (Err e)
-      → Pushes {X = Y} (ts ++ us) old new before after (Err e)
-  first_fails new after e p = record {
+  pub first_fails : (us : List Tree) {new : List WellFormed} {after : Texts} {e : ConvertError}
+      → Pushes {X = X} ts old new before after (Err e) → Pushes {X = X} (ts ++ us) old new before after (Err e)
+  first_fails us {after = after} p = record {
     ok = tt;
     refused = (
       p.refused.0,
@@ -31,11 +31,12 @@ module _ {X Y : Type 0} (ts us : List Tree) (old : List WellFormed) (before : Te
     );
   }
 
-  module _ (mid new : List WellFormed) (between after : Texts) (x : X) (first : Pushes ts old mid before between (Ok x)) where
+  module _ {us : List Tree} {mid new : List WellFormed} {between after : Texts} {x : X}
+      (first : Pushes ts old mid before between (Ok x)) where
     -- else they end as the second does
-    pub then_pushed : (result : Result Y ConvertError) → Pushes us mid new between after result
+    pub then_pushed : {result : Result X ConvertError} → Pushes us mid new between after result
         → Pushes (ts ++ us) old new before after result
-    then_pushed (Ok y) p = record {
+    then_pushed {result = Ok y} p = record {
       ok = (
         p.ok.0 ∙ ap (λ l. l ++ us) first.ok.0 ∙ append_assoc (map tree_of old) ts us,
         p.ok.1 ∙ ap (all_interned (texts us)) first.ok.1 ∙ sym (both_interned (texts ts) (texts us) before)
@@ -43,7 +44,7 @@ module _ {X Y : Type 0} (ts us : List Tree) (old : List WellFormed) (before : Te
       );
       refused = tt;
     }
-    then_pushed (Err e) p = record {
+    then_pushed {result = Err e} p = record {
       ok = tt;
       refused = (
         p.refused.0,
