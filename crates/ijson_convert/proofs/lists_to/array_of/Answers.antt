@@ -1,6 +1,6 @@
 use Rattle.std.proofs.Common.{◌≡◌, map, [], ◌∷◌, ◌++◌, take, ◌+◌, refl, ap, ap₂, sym, subst, ◌∙◌, arith}
 use Rattle.std.proofs.lemmas.List.{take_more, map-append}
-use Rattle.std.proofs.lemmas.Result.{err_from_is_err_and}
+use Rattle.ijson_convert.proofs.Refusals.{passed_on}
 use Rattle.ijson_value.specs.WellFormed.{tree_of}
 use Rattle.ijson_value.specs.Tree.{items_of}
 use Rattle.ijson_convert.specs.Interned.{all_interned, SomeInterned}
@@ -10,13 +10,12 @@ use Rattle.ijson_convert.proofs.lists_to.array_of.Goals as goal
 
 pub returns-in_err-item-clause-refused : goal.returns-in_err-item-clause-refused
 returns-in_err-item-clause-refused g c =
-    let p = err_from_is_err_and c.from_residual-in_err-item.result c.from_residual-in_err-item.ensures.1 in
     let tree = g.T.ToIValue.tree in
     let middle = all_interned (items_texts (items_of (map tree (take c.loop-x.x-index c.args.items.now)))) c.args.cache.now in
     let behind = subst (λ m. SomeInterned (texts_of (tree c.x-item.result)) m c.to_ivalue.new.cache) c.loop-x.invariant.1
     c.in_err-item.ensures.refused.1 in
     let item = subst (λ x. SomeInterned (texts_of (tree x)) middle c.to_ivalue.new.cache) c.x-item.is behind in
-    rw (p.1, p.2) (
+    passed_on _ _ c.from_residual-in_err-item.ensures.1 (
       c.in_err-item.ensures.refused.0,
       some_of_items tree c.args.items.now c.loop-x.x-index c.x-item.result c.args.cache.now
           c.to_ivalue.new.cache (omega (arith, c.loop-x-test.true)) item,
@@ -24,13 +23,12 @@ returns-in_err-item-clause-refused g c =
 
 pub returns-in_err-push-clause-refused : goal.returns-in_err-push-clause-refused
 returns-in_err-push-clause-refused g c =
-    let p = err_from_is_err_and c.from_residual-in_err-push.result c.from_residual-in_err-push.ensures.1 in
     let tree = g.T.ToIValue.tree in
     let middle = all_interned (items_texts (items_of (map tree (take c.loop-x.x-index c.args.items.now)))) c.args.cache.now in
     let whole = wholly_interned (texts_of (tree c.x-item.result)) middle c.to_ivalue.new.cache (c.in_ok-item.ensures.cache
     ∙ ap (all_interned (texts_of (tree c.x-item.result))) c.loop-x.invariant.1) in
     let item = subst (λ x. SomeInterned (texts_of (tree x)) middle c.to_ivalue.new.cache) c.x-item.is whole in
-    rw (p.1, p.2) (
+    passed_on _ _ c.from_residual-in_err-push.ensures.1 (
       refl,
       some_of_items tree c.args.items.now c.loop-x.x-index c.x-item.result c.args.cache.now c.to_ivalue.new.cache
           (omega (arith, c.loop-x-test.true)) item,

@@ -4,7 +4,7 @@ use Rattle.std.specs.declared.alloc.Global.{Global}
 use Rattle.std.specs.Iterator.{AlwaysYields}
 use Rattle.std.specs.Map.Iter.{deref_pair}
 use Rattle.std.proofs.lemmas.List.{length-append, map-append}
-use Rattle.std.proofs.lemmas.Result.{err_from_is_err_and}
+use Rattle.ijson_convert.proofs.Refusals.{passed_on}
 use Rattle.ijson_table.specs.Store.{IsDistinct}
 use Rattle.ijson_value.specs.WellFormed.{tree_of}
 use Rattle.ijson_convert.specs.MapTree.{map_tree}
@@ -61,23 +61,20 @@ loop-key-preserved g c =
 
 pub returns-in_err-pairs-clause-refused : goal.returns-in_err-pairs-clause-refused
 returns-in_err-pairs-clause-refused g c = λ all a.
-    let p = err_from_is_err_and c.from_residual.result c.from_residual.ensures.1 in
-    rw (p.1, p.2) (refl, none_interned (texts_of (map_tree g.T.ToIValue.tree all)) c.args.cache.now)
+    passed_on _ _ c.from_residual.ensures.1 (refl, none_interned (texts_of (map_tree g.T.ToIValue.tree all)) c.args.cache.now)
 
 pub returns-in_err-pair_of-clause-refused : goal.returns-in_err-pair_of-clause-refused
 returns-in_err-pair_of-clause-refused g c = λ all a.
-    let p = err_from_is_err_and c.from_residual-in_err-pair_of.result c.from_residual-in_err-pair_of.ensures.1 in
     let more = next g (goal.at.returns-in_err-pair_of-clause-refused g c).In-Some all a in
     let refused = c.in_err-pair_of.ensures.refused in
     let key = c.in-Some.key.now in
-    rw (p.1, p.2)
+    passed_on _ _ c.from_residual-in_err-pair_of.ensures.1
     (refused.0, one_refused c.loop-key.invariant.so_far key c.in-Some.x.now c.as_str.ensures.value more.0 more.1 refused.1)
 
 pub returns-in_err-object-clause-refused : goal.returns-in_err-object-clause-refused
 returns-in_err-object-clause-refused g c = λ all a.
-    let p = err_from_is_err_and c.from_residual-in_err-object.result c.from_residual-in_err-object.ensures.1 in
     let texts = (whole g (goal.at.returns-in_err-object-clause-refused g c).In-None all a).texts in
-    rw (p.1, p.2) (refl, wholly_interned (texts_of (map_tree g.T.ToIValue.tree all)) c.args.cache.now c.loop-key.cache texts)
+    passed_on _ _ c.from_residual-in_err-object.ensures.1 (refl, wholly_interned (texts_of (map_tree g.T.ToIValue.tree all)) c.args.cache.now c.loop-key.cache texts)
 
 pub returns-clause-cache : goal.returns-clause-cache
 returns-clause-cache g c = λ all a. (whole g (goal.at.returns-clause-cache g c).In-None all a).texts

@@ -3,7 +3,6 @@ use Rattle.std.proofs.Common.{arith, rules}
 use Rattle.std.specs.Prelude.{string_bytes}
 use Rattle.std.specs.List.{flat_map}
 use Rattle.std.proofs.lemmas.List.{append-nil, length-append, take_more, take_all}
-use Rattle.std.proofs.lemmas.Result.{err_from_is_err_and}
 use Rattle.serde_json.specs.Data as serde
 use Rattle.serde_json.specs.View.{view, items_view, members_view}
 use Rattle.serde_json.proofs.Views.{Entry, view-Array, view-Object}
@@ -15,7 +14,7 @@ use Rattle.ijson_convert.specs.SerdeTexts.{serde_texts, serde_items_texts, serde
 use Rattle.ijson_convert.specs.SerdeTree.{SerdeItems, SerdeMembers, HasNoTree}
 use Rattle.ijson_convert.specs.TextsOf.{texts_of}
 use Rattle.ijson_convert.proofs.Interning.{none_interned, wholly_interned, some_behind}
-use Rattle.ijson_convert.proofs.Refusals.{refused_too}
+use Rattle.ijson_convert.proofs.Refusals.{passed_on, refused_too}
 use Rattle.ijson_convert.proofs.serde_trees.SerdeTrees.{all_begun, entry_interned}
 use Rattle.ijson_convert.proofs.serde_trees.SerdeTrees.{value_texts, entry_texts, tree_texts, items_flat, members_flat, interned_more}
 use Rattle.ijson_convert.proofs.serde_trees.SerdeTrees.{split_at, items_more, members_more, array_none, object_none}
@@ -45,25 +44,22 @@ item_begun g t c =
 
 pub from_items-returns-in_err-value-clause-refused : goal.from_items-returns-in_err-value-clause-refused
 from_items-returns-in_err-value-clause-refused g t c =
-    let p = err_from_is_err_and c.from_residual-in_err-value.result c.from_residual-in_err-value.ensures.1 in
     let xs = c.deref-item-items.result.now in
     let i = c.loop-item.item-index in
     let parts = item_parts g t (goal.at.from_items-returns-in_err-value-clause-refused g t c).After-from_serde in
-    rw (p.1, p.2) (refused_too (λ none. subst (λ l. HasNoTree (serde.array (items_view l))) parts
+    passed_on _ _ c.from_residual-in_err-value.ensures.1 (refused_too (λ none. subst (λ l. HasNoTree (serde.array (items_view l))) parts
     (array_none (take i xs) c.item-item.result (drop (suc i) xs) none)) c.in_err-value.ensures.refused)
 
 pub from_items-returns-in_err-value-clause-begun : goal.from_items-returns-in_err-value-clause-begun
 from_items-returns-in_err-value-clause-begun g t c =
-    let p = err_from_is_err_and c.from_residual-in_err-value.result c.from_residual-in_err-value.ensures.1 in
-    rw p.1 (item_begun g t (goal.at.from_items-returns-in_err-value-clause-begun g t c).After-from_serde c.in_err-value.ensures.begun)
+    passed_on _ _ c.from_residual-in_err-value.ensures.1 (item_begun g t (goal.at.from_items-returns-in_err-value-clause-begun g t c).After-from_serde c.in_err-value.ensures.begun)
 
 pub from_items-returns-in_err-push-clause-begun : goal.from_items-returns-in_err-push-clause-begun
 from_items-returns-in_err-push-clause-begun g t c =
-    let p = err_from_is_err_and c.from_residual-in_err-push.result c.from_residual-in_err-push.ensures.1 in
     let v = c.item-item.result in
     let read = c.in_ok-value.ensures.cache ∙ ap (λ l. all_interned l c.loop-item.cache)
     (tree_texts (view v) c.in_ok-value.value.tree c.in_ok-value.ensures.tree) in
-    rw p.1 (item_begun g t (goal.at.from_items-returns-in_err-push-clause-begun g t c).After-from_serde
+    passed_on _ _ c.from_residual-in_err-push.ensures.1 (item_begun g t (goal.at.from_items-returns-in_err-push-clause-begun g t c).After-from_serde
     (wholly_interned (value_texts v) c.loop-item.cache c.from_serde.new.cache read))
 
 pub from_items-loop-item-preserved : goal.from_items-loop-item-preserved
@@ -93,17 +89,14 @@ from_items-returns-clause-cache g t c =
 -- ---- a value
 pub from_serde-returns-in_err-from_items-in-Array-clause-refused : goal.from_serde-returns-in_err-from_items-in-Array-clause-refused
 from_serde-returns-in_err-from_items-in-Array-clause-refused g t c =
-    let p = err_from_is_err_and c.from_residual-in_err-from_items-in-Array.result c.from_residual-in_err-from_items-in-Array.ensures.1 in
     let seen = sym (ap view c.in-Array.is ∙ view-Array c.in-Array.items) in
-    rw (p.1, p.2) (refused_too (λ none. subst HasNoTree seen none) c.in_err-from_items-in-Array.ensures.refused)
+    passed_on _ _ c.from_residual-in_err-from_items-in-Array.ensures.1 (refused_too (λ none. subst HasNoTree seen none) c.in_err-from_items-in-Array.ensures.refused)
 
 pub from_serde-returns-in_err-from_serde_map-in-Object-clause-refused :
     goal.from_serde-returns-in_err-from_serde_map-in-Object-clause-refused
 from_serde-returns-in_err-from_serde_map-in-Object-clause-refused g t c =
-    let p = err_from_is_err_and c.from_residual-in_err-from_serde_map-in-Object.result
-    c.from_residual-in_err-from_serde_map-in-Object.ensures.1 in
     let seen = sym (ap view c.in-Object.is ∙ view-Object c.in-Object.map) in
-    rw (p.1, p.2) (refused_too (λ none. subst HasNoTree seen none) c.in_err-from_serde_map-in-Object.ensures.refused)
+    passed_on _ _ c.from_residual-in_err-from_serde_map-in-Object.ensures.1 (refused_too (λ none. subst HasNoTree seen none) c.in_err-from_serde_map-in-Object.ensures.refused)
 
 pub from_serde-returns-in_ok-from_items-in-Array-clause-cache : goal.from_serde-returns-in_ok-from_items-in-Array-clause-cache
 from_serde-returns-in_ok-from_items-in-Array-clause-cache g t c =
@@ -145,11 +138,10 @@ member_begun g t c new =
 
 pub from_serde_map-returns-in_err-key-clause-begun : goal.from_serde_map-returns-in_err-key-clause-begun
 from_serde_map-returns-in_err-key-clause-begun g t c =
-    let p = err_from_is_err_and c.from_residual-in_err-key.result c.from_residual-in_err-key.ensures.1 in
     let e : Entry = (c.in-Some.key.now, c.in-Some.member.now) in
     let nothing = subst (λ m. SomeInterned (entry_texts e) c.loop-key.cache m) (sym c.in_err-key.ensures.refused)
     (none_interned (entry_texts e) c.loop-key.cache) in
-    rw p.1 (member_begun g t (goal.at.from_serde_map-returns-in_err-key-clause-begun g t c).After-intern c.intern.new.cache nothing)
+    passed_on _ _ c.from_residual-in_err-key.ensures.1 (member_begun g t (goal.at.from_serde_map-returns-in_err-key-clause-begun g t c).After-intern c.intern.new.cache nothing)
 
 pub from_serde_map-returns-in-Err-clause-refused : goal.from_serde_map-returns-in-Err-clause-refused
 from_serde_map-returns-in-Err-clause-refused g t c =
@@ -197,11 +189,10 @@ from_serde_map-loop-key-preserved g t c =
 
 pub from_serde_map-returns-in_err-from_pairs-clause-begun : goal.from_serde_map-returns-in_err-from_pairs-clause-begun
 from_serde_map-returns-in_err-from_pairs-clause-begun g t c =
-    let p = err_from_is_err_and c.from_residual-in_err-from_pairs.result c.from_residual-in_err-from_pairs.ensures.1 in
     let entries = c.args.map.now.entries in
     let all = all_done g t (goal.at.from_serde_map-returns-in_err-from_pairs-clause-begun g t c).After-from_pairs in
     let flat = members_flat entries ∙ ap (flat_map entry_texts) all in
-    rw p.1 (wholly_interned (serde_texts (serde.object (members_view entries))) c.args.cache.now c.loop-key.cache
+    passed_on _ _ c.from_residual-in_err-from_pairs.ensures.1 (wholly_interned (serde_texts (serde.object (members_view entries))) c.args.cache.now c.loop-key.cache
     (c.loop-key.invariant.texts ∙ ap (λ l. all_interned l c.args.cache.now) (sym flat)))
 
 pub from_serde_map-returns-clause-tree : goal.from_serde_map-returns-clause-tree

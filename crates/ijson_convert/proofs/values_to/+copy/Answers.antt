@@ -2,7 +2,7 @@ use Rattle.std.proofs.Common.{◌≡◌, ℕ, List, [], ◌∷◌, ◌++◌, ◌
 use Rattle.std.proofs.Common.{sym, subst, ◌∙◌, arith, rules}
 use Rattle.std.specs.List.{flat_map}
 use Rattle.std.proofs.lemmas.List.{append-nil, length-append, map-append, take_more, take_all}
-use Rattle.std.proofs.lemmas.Result.{err_from_is_err_and}
+use Rattle.ijson_convert.proofs.Refusals.{passed_on}
 use Rattle.ijson_string.specs.Cache.{Texts, interned}
 use Rattle.ijson_value.proofs.DepthLemmas.{item-items_depth}
 use Rattle.ijson_value.specs.Tree.{depth, members_depth, array, items_of}
@@ -36,16 +36,14 @@ item_begun g t c =
 
 pub copy_items-returns-in_err-copy-clause-refused : goal.copy_items-returns-in_err-copy-clause-refused
 copy_items-returns-in_err-copy-clause-refused g t c =
-    let p = err_from_is_err_and c.from_residual-in_err-copy.result c.from_residual-in_err-copy.ensures.1 in
     let here = (goal.at.copy_items-returns-in_err-copy-clause-refused g t c).After-copy_value in
-    rw (p.1, p.2) (c.in_err-copy.ensures.refused.0, item_begun g t here c.in_err-copy.ensures.refused.1)
+    passed_on _ _ c.from_residual-in_err-copy.ensures.1 (c.in_err-copy.ensures.refused.0, item_begun g t here c.in_err-copy.ensures.refused.1)
 
 pub copy_items-returns-in_err-push-clause-refused : goal.copy_items-returns-in_err-push-clause-refused
 copy_items-returns-in_err-push-clause-refused g t c =
-    let p = err_from_is_err_and c.from_residual-in_err-push.result c.from_residual-in_err-push.ensures.1 in
     let here = (goal.at.copy_items-returns-in_err-push-clause-refused g t c).After-copy_value in
     let whole = wholly_interned (item_texts c.item-item.result) c.loop-item.cache c.copy_value.new.cache c.in_ok-copy.ensures.cache in
-    rw (p.1, p.2) (refl, item_begun g t here whole)
+    passed_on _ _ c.from_residual-in_err-push.ensures.1 (refl, item_begun g t here whole)
 
 pub copy_items-loop-item-preserved : goal.copy_items-loop-item-preserved
 copy_items-loop-item-preserved g t c =
@@ -105,11 +103,10 @@ pair_begun g t c new =
 
 pub copy_pairs-returns-in_err-key-clause-refused : goal.copy_pairs-returns-in_err-key-clause-refused
 copy_pairs-returns-in_err-key-clause-refused g t c =
-    let p = err_from_is_err_and c.from_residual-in_err-key.result c.from_residual-in_err-key.ensures.1 in
     let e : List ℕ × WellFormed = (c.in-Some.key.now, c.in-Some.value.now) in
     let nothing = subst (λ m. SomeInterned (pair_texts e) c.loop-key.cache m) (sym c.in_err-key.ensures.refused)
     (none_interned (pair_texts e) c.loop-key.cache) in
-    rw (p.1, p.2) (
+    passed_on _ _ c.from_residual-in_err-key.ensures.1 (
       refl,
       pair_begun g t (goal.at.copy_pairs-returns-in_err-key-clause-refused g t c).After-intern c.intern.new.cache nothing,
     )
@@ -175,9 +172,8 @@ all_texts g t c =
 
 pub copy_pairs-returns-in_err-from_pairs-clause-refused : goal.copy_pairs-returns-in_err-from_pairs-clause-refused
 copy_pairs-returns-in_err-from_pairs-clause-refused g t c =
-    let p = err_from_is_err_and c.from_residual-in_err-from_pairs.result c.from_residual-in_err-from_pairs.ensures.1 in
     let here = (goal.at.copy_pairs-returns-in_err-from_pairs-clause-refused g t c).After-from_pairs in
-    rw (p.1, p.2) (
+    passed_on _ _ c.from_residual-in_err-from_pairs.ensures.1 (
       refl,
       wholly_interned (members_texts (pair_trees c.args.object.now.pairs)) c.args.cache.now c.loop-key.cache
           (all_texts g t here),
