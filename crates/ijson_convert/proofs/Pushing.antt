@@ -8,15 +8,14 @@ use Rattle.ijson_convert.specs.Interned.{all_interned, SomeInterned}
 use Rattle.ijson_convert.specs.TextsOf.{texts_of, items_texts}
 use Rattle.ijson_convert.specs.private.Pushes.{Pushes}
 use Rattle.ijson_convert.specs.declared.convert_error.ConvertError.{ConvertError}
-use Rattle.ijson_convert.proofs.Interning.{both_interned, some_before, some_behind}
+use Rattle.ijson_convert.proofs.Interning.{both_interned, some_before, some_behind, strings_joined}
 
 -- the strings of elements with these trees
 abbrev texts : List Tree → List (List ℕ)
 texts ts = items_texts (items_of ts)
 
 joined : (ts us : List Tree) → texts (ts ++ us) ≡ texts ts ++ texts us
-joined [] us = refl
-joined (t ∷ ts) us = ap (λ l. texts_of t ++ l) (joined ts us) ∙ sym (append_assoc (texts_of t) (texts ts) (texts us))
+joined = strings_joined (record { each = texts_of; all = texts; none = refl; first = λ _ _. refl })
 
 module _ {X : Type 0} {ts : List Tree} {old : List WellFormed} {before : Texts} where
   -- if the first step fails, both do
