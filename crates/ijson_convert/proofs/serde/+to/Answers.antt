@@ -15,7 +15,7 @@ use Rattle.ijson_value.specs.WellFormed.{WellFormed, pair_trees}
 use Rattle.ijson_value.specs.laws.HoldsWellFormed.{IsWellFormed-object}
 use Rattle.ijson_convert.specs.SerdeTree.{SerdeMeans, NoSerdeMeans}
 use Rattle.ijson_convert.proofs.Refusals.{passed_on, refused_too}
-use Rattle.ijson_convert.proofs.serde_trees.SerdeTrees.{split_at}
+use Rattle.ijson_convert.proofs.Pushing.{split_at}
 use Rattle.ijson_convert.proofs.pairs.PairTrees.{has_middle, deep_middle, key_is_new}
 use Rattle.ijson_convert.proofs.serde_trees.SerdeMeanings.{array_means, array_unmeant, object_means, object_unmeant}
 use Rattle.ijson_convert.proofs.serde.+to.Goals as goal
