@@ -1,10 +1,10 @@
 -- Interning strings in order.
-use Rattle.std.proofs.Common.{◌≡◌, ◌<◌, ℕ, zero, suc, List, [], ◌∷◌, ◌++◌, length, take, map, get_or, refl, ap, sym, subst, ◌∙◌, arith}
+use Rattle.std.proofs.Common.{◌≡◌, ℕ, List, [], ◌∷◌, ◌++◌, map, refl, ap, sym, subst, ◌∙◌}
 use Rattle.std.proofs.lemmas.List.{append_assoc, append-nil}
 use Rattle.ijson_string.specs.Cache.{Texts, interned}
-use Rattle.ijson_value.specs.Tree.{Tree, items_of}
+use Rattle.ijson_value.specs.Tree.{Tree, items_of, members_of}
 use Rattle.ijson_convert.specs.Interned.{all_interned, SomeInterned}
-use Rattle.ijson_convert.specs.TextsOf.{texts_of, items_texts}
+use Rattle.ijson_convert.specs.TextsOf.{texts_of, items_texts, members_texts}
 
 -- first these texts, and then those
 pub both_interned : (xs ys : List (List ℕ)) (cache : Texts)
@@ -39,31 +39,51 @@ some_behind xs ys old new s = record {
   cache = s.cache ∙ sym (both_interned xs s.done old);
 }
 
--- the strings of one more element
-pub pushed_texts : (ts : List Tree) (t : Tree)
-    → items_texts (items_of (ts ++ t ∷ [])) ≡ items_texts (items_of ts) ++ texts_of t
-pushed_texts [] t = append-nil (texts_of t)
-pushed_texts (u ∷ ts) t =
-    ap (λ l. texts_of u ++ l) (pushed_texts ts t)
-    ∙ sym (append_assoc (texts_of u) (items_texts (items_of ts)) (texts_of t))
+-- ---- the strings of a list, those of each part after the other
+pub record Strings (X : Type 0) : Type 0 where
+  pub each : X → List (List ℕ)
+  pub all : List X → List (List ℕ)
+  pub none : all [] ≡ []
+  pub first : (x : X) (xs : List X) → all (x ∷ xs) ≡ each x ++ all xs
 
-pub pushed_interned : (ts : List Tree) (t : Tree) (old middle new : Texts)
-    → middle ≡ all_interned (items_texts (items_of ts)) old → new ≡ all_interned (texts_of t) middle
-    → new ≡ all_interned (items_texts (items_of (ts ++ t ∷ []))) old
-pushed_interned ts t old middle new m n =
-    n ∙ ap (all_interned (texts_of t)) m
-    ∙ sym (ap (λ l. all_interned l old) (pushed_texts ts t) ∙ both_interned (items_texts (items_of ts)) (texts_of t) old)
+-- of elements with these trees
+abbrev pub element_strings : {X : Type 0} → (X → Tree) → Strings X
+element_strings tree = record {
+  each = λ x. texts_of (tree x);
+  all = λ xs. items_texts (items_of (map tree xs));
+  none = refl;
+  first = λ _ _. refl;
+}
 
--- all strings of the elements before the one at i, and a beginning of its strings
-pub some_of_items : {X : Type 0} (tree : X → Tree) (xs : List X) (i : ℕ) (d : X) (old new : Texts) → i < length xs
-    → SomeInterned (texts_of (tree (get_or xs i d))) (all_interned (items_texts (items_of (map tree (take i xs)))) old) new
-    → SomeInterned (items_texts (items_of (map tree xs))) old new
-some_of_items tree [] i d old new h s = absurd (omega arith)
-some_of_items tree (x ∷ xs) zero d old new h s =
-    some_before (texts_of (tree x)) (items_texts (items_of (map tree xs))) old new s
-some_of_items tree (x ∷ xs) (suc i) d old new h s =
-    let first = texts_of (tree x) in
-    let before = items_texts (items_of (map tree (take i xs))) in
-    some_behind first (items_texts (items_of (map tree xs))) old new
-    (some_of_items tree xs i d (all_interned first old) new (omega arith)
-    (subst (λ c. SomeInterned (texts_of (tree (get_or xs i d))) c new) (both_interned first before old) s))
+-- and of entries with these keys and trees
+abbrev pub entry_strings : {X : Type 0} → (X → List ℕ × Tree) → Strings X
+entry_strings pair = record {
+  each = λ x. (pair x).0 ∷ texts_of (pair x).1;
+  all = λ xs. members_texts (members_of (map pair xs));
+  none = refl;
+  first = λ _ _. refl;
+}
+
+module _ {X : Type 0} (s : Strings X) where
+  pub strings_joined : (xs ys : List X) → s.all (xs ++ ys) ≡ s.all xs ++ s.all ys
+  strings_joined [] ys = ap (λ l. l ++ s.all ys) (sym s.none)
+  strings_joined (x ∷ xs) ys =
+      s.first x (xs ++ ys) ∙ ap (λ l. s.each x ++ l) (strings_joined xs ys)
+      ∙ sym (append_assoc (s.each x) (s.all xs) (s.all ys)) ∙ ap (λ l. l ++ s.all ys) (sym (s.first x xs))
+
+  module _ (done : List X) (x : X) (old middle new : Texts) (so_far : middle ≡ all_interned (s.all done) old) where
+    -- those of one more part
+    pub one_interned : new ≡ all_interned (s.each x) middle → new ≡ all_interned (s.all (done ++ x ∷ [])) old
+    one_interned n =
+        n ∙ ap (all_interned (s.each x)) so_far ∙ sym (both_interned (s.all done) (s.each x) old)
+        ∙ ap (λ l. all_interned (s.all done ++ l) old) (sym (s.first x [] ∙ ap (λ l. s.each x ++ l) s.none ∙ append-nil (s.each x)))
+        ∙ ap (λ l. all_interned l old) (sym (strings_joined done (x ∷ [])))
+
+    -- a beginning of them is one of all
+    pub one_begun : (left xs : List X) → done ++ x ∷ left ≡ xs → SomeInterned (s.each x) middle new → SomeInterned (s.all xs) old new
+    one_begun left xs parts some =
+        subst (λ l. SomeInterned l old new) (sym (strings_joined done (x ∷ left) ∙ ap (λ l. s.all done ++ l) (s.first x left))
+        ∙ ap s.all parts)
+        (some_behind (s.all done) (s.each x ++ s.all left) old new
+        (some_before (s.each x) (s.all left) (all_interned (s.all done) old) new
+        (subst (λ m. SomeInterned (s.each x) m new) so_far some)))

@@ -2,7 +2,6 @@ pub mod Interning
 pub mod Pushing
 pub mod Refusals
 pub mod Whole
-pub mod copies
 pub mod pairs
 pub mod reading
 pub mod serde_trees

@@ -1,5 +1,7 @@
--- Appending elements in two steps.
-use Rattle.std.proofs.Common.{◌≡◌, ℕ, List, [], ◌∷◌, ◌++◌, map, refl, ap, sym, subst, ◌∙◌, append_assoc}
+-- Appending elements.
+use Rattle.std.proofs.Common.{◌≡◌, ◌<◌, ◌+◌, ℕ, suc, List, [], ◌∷◌, ◌++◌, length, map, get_or, take, drop, refl, ap, ap₂, sym, subst, ◌∙◌, append_assoc}
+use Rattle.std.proofs.lemmas.List.{map-append, take_more, take-append-drop}
+use Rattle.std.proofs.Math.Seq.{drop-cons}
 use Rattle.std.specs.Prelude.{Result, Ok, Err}
 use Rattle.ijson_string.specs.Cache.{Texts}
 use Rattle.ijson_value.specs.Tree.{Tree, items_of}
@@ -8,21 +10,20 @@ use Rattle.ijson_convert.specs.Interned.{all_interned, SomeInterned}
 use Rattle.ijson_convert.specs.TextsOf.{texts_of, items_texts}
 use Rattle.ijson_convert.specs.private.Pushes.{Pushes}
 use Rattle.ijson_convert.specs.declared.convert_error.ConvertError.{ConvertError}
-use Rattle.ijson_convert.proofs.Interning.{both_interned, some_before, some_behind}
+use Rattle.ijson_convert.proofs.Interning.{both_interned, some_before, some_behind, strings_joined, element_strings, one_interned, one_begun}
 
 -- the strings of elements with these trees
 abbrev texts : List Tree → List (List ℕ)
 texts ts = items_texts (items_of ts)
 
 joined : (ts us : List Tree) → texts (ts ++ us) ≡ texts ts ++ texts us
-joined [] us = refl
-joined (t ∷ ts) us = ap (λ l. texts_of t ++ l) (joined ts us) ∙ sym (append_assoc (texts_of t) (texts ts) (texts us))
+joined = strings_joined (record { each = texts_of; all = texts; none = refl; first = λ _ _. refl })
 
-module _ {X Y : Type 0} (ts us : List Tree) (old : List WellFormed) (before : Texts) where
+module _ {X : Type 0} {ts : List Tree} {old : List WellFormed} {before : Texts} where
   -- if the first step fails, both do
-  pub first_fails : (new : List WellFormed) (after : Texts) (e : ConvertError) → Pushes {X = X} ts old new before after (Err e)
-      → Pushes {X = Y} (ts ++ us) old new before after (Err e)
-  first_fails new after e p = record {
+  pub first_fails : (us : List Tree) {new : List WellFormed} {after : Texts} {e : ConvertError}
+      → Pushes {X = X} ts old new before after (Err e) → Pushes {X = X} (ts ++ us) old new before after (Err e)
+  first_fails us {after = after} p = record {
     ok = tt;
     refused = (
       p.refused.0,
@@ -31,11 +32,12 @@ module _ {X Y : Type 0} (ts us : List Tree) (old : List WellFormed) (before : Te
     );
   }
 
-  module _ (mid new : List WellFormed) (between after : Texts) (x : X) (first : Pushes ts old mid before between (Ok x)) where
+  module _ {us : List Tree} {mid new : List WellFormed} {between after : Texts} {x : X}
+      (first : Pushes ts old mid before between (Ok x)) where
     -- else they end as the second does
-    pub then_pushed : (result : Result Y ConvertError) → Pushes us mid new between after result
+    pub then_pushed : {result : Result X ConvertError} → Pushes us mid new between after result
         → Pushes (ts ++ us) old new before after result
-    then_pushed (Ok y) p = record {
+    then_pushed {result = Ok y} p = record {
       ok = (
         p.ok.0 ∙ ap (λ l. l ++ us) first.ok.0 ∙ append_assoc (map tree_of old) ts us,
         p.ok.1 ∙ ap (all_interned (texts us)) first.ok.1 ∙ sym (both_interned (texts ts) (texts us) before)
@@ -43,7 +45,7 @@ module _ {X Y : Type 0} (ts us : List Tree) (old : List WellFormed) (before : Te
       );
       refused = tt;
     }
-    then_pushed (Err e) p = record {
+    then_pushed {result = Err e} p = record {
       ok = tt;
       refused = (
         p.refused.0,
@@ -52,3 +54,29 @@ module _ {X Y : Type 0} (ts us : List Tree) (old : List WellFormed) (before : Te
             (subst (λ m. SomeInterned (texts us) m after) first.ok.1 p.refused.1)),
       );
     }
+
+-- a list around one of its elements
+pub split_at : {X : Type 0} (xs : List X) (i : ℕ) (x : X) → i < length xs → x ≡ get_or xs i x
+    → take i xs ++ x ∷ drop (suc i) xs ≡ xs
+split_at xs i x h is =
+    ap (λ y. take i xs ++ y ∷ drop (suc i) xs) is ∙ ap (λ l. take i xs ++ l) (sym (drop-cons xs i x h))
+    ∙ take-append-drop i xs
+
+module _ {X : Type 0} (tree : X → Tree) (xs : List X) (i : ℕ) (x : X) (within : i < length xs) (is : x ≡ get_or xs i x)
+    (old middle new : Texts) (so_far : middle ≡ all_interned (items_texts (items_of (map tree (take i xs)))) old) where
+  -- the next element of a list is appended
+  pub item_pushed : (vs vs' : List WellFormed) (v : WellFormed) → map tree_of vs ≡ map tree (take i xs) → vs' ≡ vs ++ v ∷ []
+      → v.tree ≡ tree x → new ≡ all_interned (texts_of (tree x)) middle
+      → (map tree_of vs' ≡ map tree (take (i + 1) xs))
+      × (new ≡ all_interned (items_texts (items_of (map tree (take (i + 1) xs)))) old)
+  item_pushed vs vs' v trees pushed tree_is n =
+      let more : take (i + 1) xs ≡ take i xs ++ x ∷ [] = take_more xs i x within ∙ ap (λ y. take i xs ++ y ∷ []) (sym is) in (
+        ap (map tree_of) pushed ∙ map-append tree_of vs (v ∷ []) ∙ ap₂ (λ l t. l ++ t ∷ []) trees tree_is
+            ∙ sym (ap (map tree) more ∙ map-append tree (take i xs) (x ∷ [])),
+        one_interned (element_strings tree) (take i xs) x old middle new so_far n
+            ∙ ap (λ ys. all_interned (items_texts (items_of (map tree ys))) old) (sym more),
+      )
+
+  -- or a beginning of its strings is interned
+  pub item_begun : SomeInterned (texts_of (tree x)) middle new → SomeInterned (items_texts (items_of (map tree xs))) old new
+  item_begun = one_begun (element_strings tree) (take i xs) x old middle new so_far (drop (suc i) xs) xs (split_at xs i x within is)

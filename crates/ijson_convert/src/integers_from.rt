@@ -1,4 +1,6 @@
 //! `FromIValue` for integers.
+#![tactic(auto, using(crate::proofs::Whole::read_integers))]
+
 ghost use Rattle.std.specs.Prelude.{◌<◌, ◌^◌, pos, ⊤, FitsSigned};
 ghost use Rattle.std.specs.Int.{w8, w16, w32, w64};
 ghost use Rattle.ijson_convert.specs.IntegerTree.{integer_tree};

@@ -1,4 +1,6 @@
 //! `ToIValue` for integers.
+#![tactic(auto, using(crate::proofs::Whole::made_integers))]
+
 ghost use Rattle.std.specs.Prelude.{pos};
 ghost use Rattle.ijson_convert.specs.IntegerTree.{integer_tree};
 

@@ -1,13 +1,9 @@
 -- Values of `serde_json` and their trees, part by part.
-use Rattle.std.proofs.Common.{◌≡◌, ◌<◌, ℕ, suc, List, length, map, take, drop, get_or, [], ◌∷◌, ◌++◌, refl, ap, ap₂, sym, subst}
+use Rattle.std.proofs.Common.{◌≡◌, ℕ, List, map, [], ◌∷◌, ◌++◌, refl, ap, ap₂, sym, subst}
 use Rattle.std.proofs.Common.{◌∙◌}
 use Rattle.std.specs.Prelude.{string_bytes, string_cmp}
-use Rattle.std.specs.List.{flat_map}
 use Rattle.std.specs.List.Sorted.{IsStrictlySortedBy}
 use Rattle.std.specs.Map.{keys_of}
-use Rattle.std.proofs.lemmas.Grind.{flat_map-append}
-use Rattle.std.proofs.lemmas.List.{append-nil, take-append-drop}
-use Rattle.std.proofs.Math.Seq.{drop-cons}
 use Rattle.serde_json.specs.Data as serde
 use Rattle.serde_json.specs.Data.{Data}
 use Rattle.serde_json.specs.View.{view, items_view, members_view}
@@ -19,11 +15,11 @@ use Rattle.ijson_table.proofs.pairs.PutEach.{put_each-new}
 use Rattle.ijson_value.proofs.FromMaps.{ordered_keys}
 use Rattle.ijson_value.specs.Tree.{Tree, null, boolean, number, string, array, object, Items, no_items, item, Members, no_members, member}
 use Rattle.ijson_value.specs.WellFormed.{WellFormed, item_trees, pair_trees}
-use Rattle.ijson_convert.specs.Interned.{all_interned, SomeInterned}
+use Rattle.ijson_convert.specs.Interned.{all_interned}
 use Rattle.ijson_convert.specs.SerdeTexts.{serde_texts, serde_items_texts, serde_members_texts}
 use Rattle.ijson_convert.specs.SerdeTree.{SerdeTree, SerdeItems, SerdeMembers, HasNoTree}
 use Rattle.ijson_convert.specs.TextsOf.{texts_of, items_texts, members_texts}
-use Rattle.ijson_convert.proofs.Interning.{both_interned, some_before, some_behind}
+use Rattle.ijson_convert.proofs.Interning.{Strings}
 
 -- ---- a tree has the strings of the value whose tree it is
 mutual
@@ -51,63 +47,29 @@ mutual
       ap₂ (λ a b. a ∷ b) (sym h.0) (ap₂ (λ a b. a ++ b) (tree_texts d t h.1) (same_members_texts ms ps h.2))
   same_members_texts _ _ h = absurd h
 
--- ---- the strings of parts, part by part
-abbrev pub value_texts : Value → List (List ℕ)
-value_texts v = serde_texts (view v)
+-- ---- the strings of elements and of entries
+abbrev pub value_strings : Strings Value
+value_strings = record {
+  each = λ v. serde_texts (view v);
+  all = λ vs. serde_items_texts (items_view vs);
+  none = refl;
+  first = λ _ _. refl;
+}
 
--- the strings of an entry: its key and those of its value
-abbrev pub entry_texts : Entry → List (List ℕ)
-entry_texts e = string_bytes e.0 ∷ serde_texts (view e.1)
-
--- those of a list, element by element
-pub items_flat : (vs : List Value) → serde_items_texts (items_view vs) ≡ flat_map value_texts vs
-items_flat [] = refl
-items_flat (v ∷ vs) = ap (λ l. value_texts v ++ l) (items_flat vs)
-
--- those of a map, entry by entry
-pub members_flat : (es : List Entry) → serde_members_texts (members_view es) ≡ flat_map entry_texts es
-members_flat [] = refl
-members_flat (e ∷ es) = ap (λ l. entry_texts e ++ l) (members_flat es)
-
-module _ {X : Type 0} (texts : X → List (List ℕ)) (done : List X) (x : X) (old middle new : Texts)
-    (so_far : middle ≡ all_interned (flat_map texts done) old) where
-  -- those of one more part
-  pub interned_more : new ≡ all_interned (texts x) middle → new ≡ all_interned (flat_map texts (done ++ x ∷ [])) old
-  interned_more n =
-      n ∙ ap (all_interned (texts x)) so_far
-      ∙ sym (both_interned (flat_map texts done) (texts x) old)
-      ∙ ap (λ l. all_interned (flat_map texts done ++ l) old) (sym (append-nil (texts x)))
-      ∙ ap (λ l. all_interned l old) (sym (flat_map-append texts done (x ∷ [])))
-
-  -- and a beginning of them
-  pub begun_more : (left : List X) → SomeInterned (texts x) middle new → SomeInterned (flat_map texts (done ++ x ∷ left)) old new
-  begun_more left s =
-      subst (λ l. SomeInterned l old new) (sym (flat_map-append texts done (x ∷ left)))
-      (some_behind (flat_map texts done) (texts x ++ flat_map texts left) old new
-      (some_before (texts x) (flat_map texts left) (all_interned (flat_map texts done) old) new
-      (subst (λ m. SomeInterned (texts x) m new) so_far s)))
-
--- a beginning of the strings of a list or a map, after all strings of its first parts
-pub all_begun : {X : Type 0} (texts : X → List (List ℕ)) (all_texts : List X → List (List ℕ))
-    → ((xs : List X) → all_texts xs ≡ flat_map texts xs)
-    → (done : List X) (x : X) (left xs : List X) (old middle new : Texts) → done ++ x ∷ left ≡ xs
-    → middle ≡ all_interned (flat_map texts done) old → SomeInterned (texts x) middle new → SomeInterned (all_texts xs) old new
-all_begun texts all_texts flat done x left xs old middle new parts so_far s =
-    subst (λ l. SomeInterned l old new) (ap (flat_map texts) parts ∙ sym (flat xs)) (begun_more texts done x old middle new so_far left s)
+abbrev pub member_strings : Strings Entry
+member_strings = record {
+  each = λ e. string_bytes e.0 ∷ serde_texts (view e.1);
+  all = λ es. serde_members_texts (members_view es);
+  none = refl;
+  first = λ _ _. refl;
+}
 
 -- the key of an entry was interned, and then the strings of its value
 pub entry_interned : (e : Entry) (t : Tree) (k : List ℕ) (old middle new : Texts) → middle ≡ interned k old → k ≡ string_bytes e.0
-    → new ≡ all_interned (texts_of t) middle → SerdeTree (view e.1) t → new ≡ all_interned (entry_texts e) old
+    → new ≡ all_interned (texts_of t) middle → SerdeTree (view e.1) t → new ≡ all_interned (member_strings.each e) old
 entry_interned e t k old middle new keyed is read tree =
     read ∙ ap (λ l. all_interned l middle) (tree_texts (view e.1) t tree)
     ∙ ap (all_interned (serde_texts (view e.1))) (keyed ∙ ap (λ k. interned k old) is)
-
--- ---- a list around one of its elements
-pub split_at : {X : Type 0} (xs : List X) (i : ℕ) (x : X) → i < length xs → x ≡ get_or xs i x
-    → take i xs ++ x ∷ drop (suc i) xs ≡ xs
-split_at xs i x h is =
-    ap (λ y. take i xs ++ y ∷ drop (suc i) xs) is ∙ ap (λ l. take i xs ++ l) (sym (drop-cons xs i x h))
-    ∙ take-append-drop i xs
 
 -- ---- the trees of one more part
 pub items_more : (vs : List Value) (us : List WellFormed) (v : Value) (u : WellFormed)

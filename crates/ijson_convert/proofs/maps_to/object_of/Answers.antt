@@ -4,10 +4,10 @@ use Rattle.std.specs.declared.alloc.Global.{Global}
 use Rattle.std.specs.Iterator.{AlwaysYields}
 use Rattle.std.specs.Map.Iter.{deref_pair}
 use Rattle.std.proofs.lemmas.List.{length-append, map-append}
-use Rattle.std.proofs.lemmas.Result.{err_from_is_err_and}
+use Rattle.ijson_convert.proofs.Refusals.{passed_on}
 use Rattle.ijson_table.specs.Store.{IsDistinct}
 use Rattle.ijson_value.specs.WellFormed.{tree_of}
-use Rattle.ijson_convert.specs.MapTree.{map_tree}
+use Rattle.ijson_convert.specs.MapTree.{pair_tree, map_tree}
 use Rattle.ijson_convert.specs.TextsOf.{texts_of}
 use Rattle.ijson_convert.proofs.Interning.{none_interned, wholly_interned}
 use Rattle.ijson_convert.proofs.pairs.PairsPut.{SoFar, as_many, one_more, one_refused, all_put}
@@ -34,9 +34,9 @@ all_came g c all a =
 -- so the entries are those of all
 whole : (g : _) (c : In-None g) (all : List (String Global × g.row.T.Denot))
     → AlwaysYields g.I.Iterator.next_gives deref_pair c.args.entries all
-    → SoFar g.T.ToIValue.tree c.args.cache.now c.loop-key.pairs.items all c.loop-key.cache
+    → SoFar (pair_tree g.T.ToIValue.tree) c.args.cache.now c.loop-key.pairs.items all c.loop-key.cache
 whole g c all a =
-    subst (λ es. SoFar g.T.ToIValue.tree c.args.cache.now c.loop-key.pairs.items es c.loop-key.cache) (sym (all_came g c all a))
+    subst (λ es. SoFar (pair_tree g.T.ToIValue.tree) c.args.cache.now c.loop-key.pairs.items es c.loop-key.cache) (sym (all_came g c all a))
     c.loop-key.invariant.so_far
 
 pub push_reserved-requires : goal.push_reserved-requires
@@ -54,30 +54,27 @@ loop-key-preserved g c =
     record {
       ready = search rules;
       finite = search rules;
-      so_far = one_more c.loop-key.invariant.so_far key c.in-Some.x.now c.as_str.ensures.value c.in_ok-pair_of.field-0 pair.0 pair.1
+      so_far = one_more c.loop-key.invariant.so_far (key, c.in-Some.x.now) c.as_str.ensures.value c.in_ok-pair_of.field-0 pair.0 pair.1
           c.push_reserved.ensures.items (map-append deref_pair c.loop-key.yielded _) c.in_ok-pair_of.ensures.cache;
       room = search rules;
     }
 
 pub returns-in_err-pairs-clause-refused : goal.returns-in_err-pairs-clause-refused
 returns-in_err-pairs-clause-refused g c = λ all a.
-    let p = err_from_is_err_and c.from_residual.result c.from_residual.ensures.1 in
-    rw (p.1, p.2) (refl, none_interned (texts_of (map_tree g.T.ToIValue.tree all)) c.args.cache.now)
+    passed_on _ _ c.from_residual.ensures.1 (refl, none_interned (texts_of (map_tree g.T.ToIValue.tree all)) c.args.cache.now)
 
 pub returns-in_err-pair_of-clause-refused : goal.returns-in_err-pair_of-clause-refused
 returns-in_err-pair_of-clause-refused g c = λ all a.
-    let p = err_from_is_err_and c.from_residual-in_err-pair_of.result c.from_residual-in_err-pair_of.ensures.1 in
     let more = next g (goal.at.returns-in_err-pair_of-clause-refused g c).In-Some all a in
     let refused = c.in_err-pair_of.ensures.refused in
     let key = c.in-Some.key.now in
-    rw (p.1, p.2)
-    (refused.0, one_refused c.loop-key.invariant.so_far key c.in-Some.x.now c.as_str.ensures.value more.0 more.1 refused.1)
+    passed_on _ _ c.from_residual-in_err-pair_of.ensures.1
+    (refused.0, one_refused c.loop-key.invariant.so_far (key, c.in-Some.x.now) c.as_str.ensures.value more.0 more.1 refused.1)
 
 pub returns-in_err-object-clause-refused : goal.returns-in_err-object-clause-refused
 returns-in_err-object-clause-refused g c = λ all a.
-    let p = err_from_is_err_and c.from_residual-in_err-object.result c.from_residual-in_err-object.ensures.1 in
     let texts = (whole g (goal.at.returns-in_err-object-clause-refused g c).In-None all a).texts in
-    rw (p.1, p.2) (refl, wholly_interned (texts_of (map_tree g.T.ToIValue.tree all)) c.args.cache.now c.loop-key.cache texts)
+    passed_on _ _ c.from_residual-in_err-object.ensures.1 (refl, wholly_interned (texts_of (map_tree g.T.ToIValue.tree all)) c.args.cache.now c.loop-key.cache texts)
 
 pub returns-clause-cache : goal.returns-clause-cache
 returns-clause-cache g c = λ all a. (whole g (goal.at.returns-clause-cache g c).In-None all a).texts

@@ -1,5 +1,6 @@
 use Rattle.std.proofs.Common.{◌≡◌, map, vec_capacity}
 use Rattle.std.specs.Map.Iter.{deref_pair}
+use Rattle.ijson_convert.specs.MapTree.{pair_tree}
 use Rattle.ijson_convert.proofs.pairs.PairsPut.{SoFar}
 use Rattle.ijson_convert.proofs.maps_to.object_of.Given as goal
 
@@ -8,6 +9,6 @@ abbrev pub invariant-loop-key : goal.invariant-loop-key
 invariant-loop-key g l = record {
   ready : (goal.iterator-loop-key g).can_next l.key-iterator;
   finite : (goal.iterator-loop-key g).is_finite l.key-iterator;
-  so_far : SoFar g.T.ToIValue.tree l.fn.cache l.pairs.items (map deref_pair l.yielded) l.cache;
+  so_far : SoFar (pair_tree g.T.ToIValue.tree) l.fn.cache l.pairs.items (map deref_pair l.yielded) l.cache;
   room : vec_capacity l.pairs ≡ l.count;
 }

@@ -1,9 +1,7 @@
 use Rattle.std.proofs.Common.{◌≡◌, ℕ, [], ◌∷◌, ◌++◌, ◌+◌, suc, length, vec_capacity, take, drop, append_assoc, refl, ap, sym, subst, ◌∙◌}
 use Rattle.std.proofs.Common.{arith, rules}
 use Rattle.std.specs.Prelude.{string_bytes}
-use Rattle.std.specs.List.{flat_map}
 use Rattle.std.proofs.lemmas.List.{append-nil, length-append, take_more, take_all}
-use Rattle.std.proofs.lemmas.Result.{err_from_is_err_and}
 use Rattle.serde_json.specs.Data as serde
 use Rattle.serde_json.specs.View.{view, items_view, members_view}
 use Rattle.serde_json.proofs.Views.{Entry, view-Array, view-Object}
@@ -14,12 +12,11 @@ use Rattle.ijson_convert.specs.Interned.{all_interned, SomeInterned}
 use Rattle.ijson_convert.specs.SerdeTexts.{serde_texts, serde_items_texts, serde_members_texts}
 use Rattle.ijson_convert.specs.SerdeTree.{SerdeItems, SerdeMembers, HasNoTree}
 use Rattle.ijson_convert.specs.TextsOf.{texts_of}
-use Rattle.ijson_convert.proofs.Interning.{none_interned, wholly_interned, some_behind}
-use Rattle.ijson_convert.proofs.Refusals.{refused_too}
-use Rattle.ijson_convert.proofs.serde_trees.SerdeTrees.{all_begun, entry_interned}
-use Rattle.ijson_convert.proofs.serde_trees.SerdeTrees.{value_texts, entry_texts, tree_texts, items_flat, members_flat, interned_more}
-use Rattle.ijson_convert.proofs.serde_trees.SerdeTrees.{split_at, items_more, members_more, array_none, object_none}
-use Rattle.ijson_convert.proofs.serde_trees.SerdeTrees.{pairs_last}
+use Rattle.ijson_convert.proofs.Interning.{none_interned, wholly_interned, some_behind, one_interned, one_begun}
+use Rattle.ijson_convert.proofs.Pushing.{split_at}
+use Rattle.ijson_convert.proofs.Refusals.{passed_on, refused_too}
+use Rattle.ijson_convert.proofs.serde_trees.SerdeTrees.{value_strings, member_strings, entry_interned, tree_texts}
+use Rattle.ijson_convert.proofs.serde_trees.SerdeTrees.{items_more, members_more, array_none, object_none, pairs_last}
 use Rattle.ijson_convert.proofs.serde.+from.Given.{Over}
 use Rattle.ijson_convert.proofs.serde.+from.Goals as goal
 use Rattle.ijson_convert.proofs.serde.+from.Goals.{from_items-After-from_serde, from_serde_map-After-intern}
@@ -35,36 +32,29 @@ item_parts g t c = split_at c.deref-item-items.result.now c.loop-item.item-index
 
 -- a beginning of this element's strings is one of all strings
 item_begun : (g : Over) (t : ℕ) (c : from_items-After-from_serde g t)
-    → SomeInterned (value_texts c.item-item.result) c.loop-item.cache c.from_serde.new.cache
+    → SomeInterned (serde_texts (view c.item-item.result)) c.loop-item.cache c.from_serde.new.cache
     → SomeInterned (serde_items_texts (items_view c.args.items.now.items)) c.args.cache.now c.from_serde.new.cache
-item_begun g t c =
-    let xs = c.deref-item-items.result.now in let i = c.loop-item.item-index in
-    all_begun value_texts (λ vs. serde_items_texts (items_view vs)) items_flat
-    (take i xs) c.item-item.result (drop (suc i) xs) c.args.items.now.items c.args.cache.now c.loop-item.cache
-    c.from_serde.new.cache (item_parts g t c) c.loop-item.invariant.1
+item_begun g t c = one_begun value_strings _ _ _ _ _ c.loop-item.invariant.1 _ _ (item_parts g t c)
 
 pub from_items-returns-in_err-value-clause-refused : goal.from_items-returns-in_err-value-clause-refused
 from_items-returns-in_err-value-clause-refused g t c =
-    let p = err_from_is_err_and c.from_residual-in_err-value.result c.from_residual-in_err-value.ensures.1 in
     let xs = c.deref-item-items.result.now in
     let i = c.loop-item.item-index in
     let parts = item_parts g t (goal.at.from_items-returns-in_err-value-clause-refused g t c).After-from_serde in
-    rw (p.1, p.2) (refused_too (λ none. subst (λ l. HasNoTree (serde.array (items_view l))) parts
+    passed_on _ _ c.from_residual-in_err-value.ensures.1 (refused_too (λ none. subst (λ l. HasNoTree (serde.array (items_view l))) parts
     (array_none (take i xs) c.item-item.result (drop (suc i) xs) none)) c.in_err-value.ensures.refused)
 
 pub from_items-returns-in_err-value-clause-begun : goal.from_items-returns-in_err-value-clause-begun
 from_items-returns-in_err-value-clause-begun g t c =
-    let p = err_from_is_err_and c.from_residual-in_err-value.result c.from_residual-in_err-value.ensures.1 in
-    rw p.1 (item_begun g t (goal.at.from_items-returns-in_err-value-clause-begun g t c).After-from_serde c.in_err-value.ensures.begun)
+    passed_on _ _ c.from_residual-in_err-value.ensures.1 (item_begun g t (goal.at.from_items-returns-in_err-value-clause-begun g t c).After-from_serde c.in_err-value.ensures.begun)
 
 pub from_items-returns-in_err-push-clause-begun : goal.from_items-returns-in_err-push-clause-begun
 from_items-returns-in_err-push-clause-begun g t c =
-    let p = err_from_is_err_and c.from_residual-in_err-push.result c.from_residual-in_err-push.ensures.1 in
     let v = c.item-item.result in
     let read = c.in_ok-value.ensures.cache ∙ ap (λ l. all_interned l c.loop-item.cache)
     (tree_texts (view v) c.in_ok-value.value.tree c.in_ok-value.ensures.tree) in
-    rw p.1 (item_begun g t (goal.at.from_items-returns-in_err-push-clause-begun g t c).After-from_serde
-    (wholly_interned (value_texts v) c.loop-item.cache c.from_serde.new.cache read))
+    passed_on _ _ c.from_residual-in_err-push.ensures.1 (item_begun g t (goal.at.from_items-returns-in_err-push-clause-begun g t c).After-from_serde
+    (wholly_interned _ _ _ read))
 
 pub from_items-loop-item-preserved : goal.from_items-loop-item-preserved
 from_items-loop-item-preserved g t c =
@@ -79,31 +69,26 @@ from_items-loop-item-preserved g t c =
       subst (λ l. SerdeItems (items_view l) (item_trees c.push.new.self.items)) (sym more)
           (subst (λ us. SerdeItems (items_view (take i xs ++ v ∷ [])) (item_trees us)) (sym c.in_ok-push.ensures.ok)
           (items_more (take i xs) c.loop-item.array.items v u c.loop-item.invariant.0 c.in_ok-value.ensures.tree)),
-      interned_more value_texts (take i xs) v c.args.cache.now c.loop-item.cache c.from_serde.new.cache c.loop-item.invariant.1 read
-          ∙ ap (λ l. all_interned (flat_map value_texts l) c.args.cache.now) (sym more),
+      one_interned value_strings (take i xs) v _ _ _ c.loop-item.invariant.1 read
+          ∙ ap (λ vs. all_interned (serde_items_texts (items_view vs)) c.args.cache.now) (sym more),
     )
 
 pub from_items-returns-clause-cache : goal.from_items-returns-clause-cache
 from_items-returns-clause-cache g t c =
-    let all = take_all c.loop-item.item-index c.deref-item-items.result.now (omega (arith, c.loop-item-test.false))
-    ∙ c.deref-item-items.ensures.value in
-    c.loop-item.invariant.1 ∙ ap (λ l. all_interned l c.args.cache.now) (ap (flat_map value_texts) all
-    ∙ sym (items_flat c.args.items.now.items))
+    c.loop-item.invariant.1 ∙ ap (λ vs. all_interned (serde_items_texts (items_view vs)) c.args.cache.now)
+    (take_all c.loop-item.item-index c.deref-item-items.result.now (omega (arith, c.loop-item-test.false)) ∙ c.deref-item-items.ensures.value)
 
 -- ---- a value
 pub from_serde-returns-in_err-from_items-in-Array-clause-refused : goal.from_serde-returns-in_err-from_items-in-Array-clause-refused
 from_serde-returns-in_err-from_items-in-Array-clause-refused g t c =
-    let p = err_from_is_err_and c.from_residual-in_err-from_items-in-Array.result c.from_residual-in_err-from_items-in-Array.ensures.1 in
     let seen = sym (ap view c.in-Array.is ∙ view-Array c.in-Array.items) in
-    rw (p.1, p.2) (refused_too (λ none. subst HasNoTree seen none) c.in_err-from_items-in-Array.ensures.refused)
+    passed_on _ _ c.from_residual-in_err-from_items-in-Array.ensures.1 (refused_too (λ none. subst HasNoTree seen none) c.in_err-from_items-in-Array.ensures.refused)
 
 pub from_serde-returns-in_err-from_serde_map-in-Object-clause-refused :
     goal.from_serde-returns-in_err-from_serde_map-in-Object-clause-refused
 from_serde-returns-in_err-from_serde_map-in-Object-clause-refused g t c =
-    let p = err_from_is_err_and c.from_residual-in_err-from_serde_map-in-Object.result
-    c.from_residual-in_err-from_serde_map-in-Object.ensures.1 in
     let seen = sym (ap view c.in-Object.is ∙ view-Object c.in-Object.map) in
-    rw (p.1, p.2) (refused_too (λ none. subst HasNoTree seen none) c.in_err-from_serde_map-in-Object.ensures.refused)
+    passed_on _ _ c.from_residual-in_err-from_serde_map-in-Object.ensures.1 (refused_too (λ none. subst HasNoTree seen none) c.in_err-from_serde_map-in-Object.ensures.refused)
 
 pub from_serde-returns-in_ok-from_items-in-Array-clause-cache : goal.from_serde-returns-in_ok-from_items-in-Array-clause-cache
 from_serde-returns-in_ok-from_items-in-Array-clause-cache g t c =
@@ -136,20 +121,15 @@ all_done g t c =
 
 -- a beginning of this member's strings is one of all strings
 member_begun : (g : Over) (t : ℕ) (c : from_serde_map-After-intern g t) (new : Texts)
-    → SomeInterned (entry_texts (c.in-Some.key.now, c.in-Some.member.now)) c.loop-key.cache new
+    → SomeInterned (string_bytes c.in-Some.key.now ∷ serde_texts (view c.in-Some.member.now)) c.loop-key.cache new
     → SomeInterned (serde_members_texts (members_view c.args.map.now.entries)) c.args.cache.now new
-member_begun g t c new =
-    all_begun entry_texts (λ es. serde_members_texts (members_view es)) members_flat c.loop-key.invariant.done
-    (c.in-Some.key.now, c.in-Some.member.now) c.next.new.self c.args.map.now.entries c.args.cache.now
-    c.loop-key.cache new (member_parts g t c) c.loop-key.invariant.texts
+member_begun g t c new = one_begun member_strings _ _ _ _ _ c.loop-key.invariant.texts _ _ (member_parts g t c)
 
 pub from_serde_map-returns-in_err-key-clause-begun : goal.from_serde_map-returns-in_err-key-clause-begun
 from_serde_map-returns-in_err-key-clause-begun g t c =
-    let p = err_from_is_err_and c.from_residual-in_err-key.result c.from_residual-in_err-key.ensures.1 in
-    let e : Entry = (c.in-Some.key.now, c.in-Some.member.now) in
-    let nothing = subst (λ m. SomeInterned (entry_texts e) c.loop-key.cache m) (sym c.in_err-key.ensures.refused)
-    (none_interned (entry_texts e) c.loop-key.cache) in
-    rw p.1 (member_begun g t (goal.at.from_serde_map-returns-in_err-key-clause-begun g t c).After-intern c.intern.new.cache nothing)
+    passed_on _ _ c.from_residual-in_err-key.ensures.1
+    (member_begun g t (goal.at.from_serde_map-returns-in_err-key-clause-begun g t c).After-intern c.intern.new.cache
+    (subst (SomeInterned _ c.loop-key.cache) (sym c.in_err-key.ensures.refused) (none_interned _ c.loop-key.cache)))
 
 pub from_serde_map-returns-in-Err-clause-refused : goal.from_serde_map-returns-in-Err-clause-refused
 from_serde_map-returns-in-Err-clause-refused g t c =
@@ -166,7 +146,7 @@ from_serde_map-returns-in-Err-clause-begun g t c =
     c.in_ok-key.ensures.cache ∙ ap (λ k. interned k c.loop-key.cache) c.as_str.ensures.value in
     let behind = subst (λ m. SomeInterned (serde_texts (view e.1)) m new) keyed c.in-Err.ensures.begun in
     member_begun g t (goal.at.from_serde_map-returns-in-Err-clause-begun g t c).After-intern new
-    (some_behind (string_bytes e.0 ∷ []) (serde_texts (view e.1)) c.loop-key.cache new behind)
+    (some_behind (string_bytes e.0 ∷ []) (serde_texts (view e.1)) _ _ behind)
 
 pub from_serde_map-push_reserved-requires : goal.from_serde_map-push_reserved-requires
 from_serde_map-push_reserved-requires g t c =
@@ -191,18 +171,15 @@ from_serde_map-loop-key-preserved g t c =
       parts = c.loop-key.invariant.parts ∙ ap (λ es. done ++ es) c.in-Some.ensures.steps ∙ sym (append_assoc done (e ∷ []) left);
       trees = subst (λ ps. SerdeMembers (members_view (done ++ e ∷ [])) (pair_trees ps)) (sym last)
           (members_more done old e u c.loop-key.invariant.trees c.in-Ok.ensures.tree);
-      texts = interned_more entry_texts done e c.args.cache.now c.loop-key.cache new c.loop-key.invariant.texts read;
+      texts = one_interned member_strings done e _ _ _ c.loop-key.invariant.texts read;
       room = omega (arith, room, ap length pushed, more, c.loop-key.invariant.room, ap length c.in-Some.ensures.steps);
     }
 
 pub from_serde_map-returns-in_err-from_pairs-clause-begun : goal.from_serde_map-returns-in_err-from_pairs-clause-begun
 from_serde_map-returns-in_err-from_pairs-clause-begun g t c =
-    let p = err_from_is_err_and c.from_residual-in_err-from_pairs.result c.from_residual-in_err-from_pairs.ensures.1 in
-    let entries = c.args.map.now.entries in
     let all = all_done g t (goal.at.from_serde_map-returns-in_err-from_pairs-clause-begun g t c).After-from_pairs in
-    let flat = members_flat entries ∙ ap (flat_map entry_texts) all in
-    rw p.1 (wholly_interned (serde_texts (serde.object (members_view entries))) c.args.cache.now c.loop-key.cache
-    (c.loop-key.invariant.texts ∙ ap (λ l. all_interned l c.args.cache.now) (sym flat)))
+    passed_on _ _ c.from_residual-in_err-from_pairs.ensures.1 (wholly_interned _ _ _ (c.loop-key.invariant.texts
+    ∙ ap (λ es. all_interned (serde_members_texts (members_view es)) c.args.cache.now) (sym all)))
 
 pub from_serde_map-returns-clause-tree : goal.from_serde_map-returns-clause-tree
 from_serde_map-returns-clause-tree g t c =
@@ -217,5 +194,5 @@ from_serde_map-returns-clause-cache g t c =
     let entries = c.args.map.now.entries in
     let all = all_done g t (goal.at.from_serde_map-returns-clause-cache g t c).After-from_pairs in
     let texts = tree_texts (serde.object (members_view entries)) (object_tree c.in_ok-from_pairs.field-0.pairs)
-    (from_serde_map-returns-clause-tree g t c) ∙ members_flat entries ∙ ap (flat_map entry_texts) all in
+    (from_serde_map-returns-clause-tree g t c) ∙ ap (λ es. serde_members_texts (members_view es)) all in
     c.loop-key.invariant.texts ∙ ap (λ l. all_interned l c.args.cache.now) (sym texts)

@@ -3,7 +3,6 @@ use Rattle.std.proofs.Common.{arith, rules}
 use Rattle.std.specs.Prelude.{string_cmp}
 use Rattle.std.specs.BTreeMap.{insert_entry}
 use Rattle.std.proofs.lemmas.List.{length-append, take_more}
-use Rattle.std.proofs.lemmas.Result.{err_from_is_err_and}
 use Rattle.serde_json.specs.Data as serde
 use Rattle.serde_json.specs.View.{view, items_view, members_view}
 use Rattle.serde_json.proofs.Views.{members_view-insert_entry}
@@ -15,8 +14,8 @@ use Rattle.ijson_value.specs.Values.{array_tree, object_tree}
 use Rattle.ijson_value.specs.WellFormed.{WellFormed, pair_trees}
 use Rattle.ijson_value.specs.laws.HoldsWellFormed.{IsWellFormed-object}
 use Rattle.ijson_convert.specs.SerdeTree.{SerdeMeans, NoSerdeMeans}
-use Rattle.ijson_convert.proofs.Refusals.{refused_too}
-use Rattle.ijson_convert.proofs.serde_trees.SerdeTrees.{split_at}
+use Rattle.ijson_convert.proofs.Refusals.{passed_on, refused_too}
+use Rattle.ijson_convert.proofs.Pushing.{split_at}
 use Rattle.ijson_convert.proofs.pairs.PairTrees.{has_middle, deep_middle, key_is_new}
 use Rattle.ijson_convert.proofs.serde_trees.SerdeMeanings.{array_means, array_unmeant, object_means, object_unmeant}
 use Rattle.ijson_convert.proofs.serde.+to.Goals as goal
@@ -38,12 +37,11 @@ to_items-to_serde-requires t c =
 
 pub to_items-returns-in_err-to_serde-clause-refused : goal.to_items-returns-in_err-to_serde-clause-refused
 to_items-returns-in_err-to_serde-clause-refused t c =
-    let p = err_from_is_err_and c.from_residual-in_err-to_serde.result c.from_residual-in_err-to_serde.ensures.1 in
     let xs = c.args.items.now in
     let i = c.loop-item.item-index in
     let u = c.item-item.result in
     let parts = split_at xs i u c.loop-item-test.true c.item-item.is in
-    rw (p.1, p.2) (refused_too (λ none. subst (λ us. NoSerdeMeans (array_tree us)) parts
+    passed_on _ _ c.from_residual-in_err-to_serde.ensures.1 (refused_too (λ none. subst (λ us. NoSerdeMeans (array_tree us)) parts
     (array_unmeant (take i xs) u (drop (suc i) xs) none)) c.in_err-to_serde.ensures.refused)
 
 pub to_items-loop-item-preserved : goal.to_items-loop-item-preserved
@@ -66,24 +64,20 @@ to_items-loop-item-preserved t c =
 -- ---- a value
 pub to_serde-returns-in_err-to_serde_number-in-Number-clause-refused : goal.to_serde-returns-in_err-to_serde_number-in-Number-clause-refused
 to_serde-returns-in_err-to_serde_number-in-Number-clause-refused t c =
-    let p = err_from_is_err_and c.from_residual.result c.from_residual.ensures.1 in
     let is = ap (λ v. v.tree) (sym c.destructure_ref.ensures ∙ ap ref_value c.in-Number.is) in
     let r = c.in_err-to_serde_number-in-Number.ensures.refused in
-    rw (p.1, p.2) (inr (r.0, subst NoSerdeMeans (sym is) r.1))
+    passed_on _ _ c.from_residual.ensures.1 (inr (r.0, subst NoSerdeMeans (sym is) r.1))
 
 pub to_serde-returns-in_err-to_items-in-Array-clause-refused : goal.to_serde-returns-in_err-to_items-in-Array-clause-refused
 to_serde-returns-in_err-to_items-in-Array-clause-refused t c =
-    let p = err_from_is_err_and c.from_residual-in_err-to_items-in-Array.result c.from_residual-in_err-to_items-in-Array.ensures.1 in
     let is = ap (λ v. v.tree) (sym c.destructure_ref.ensures ∙ ap ref_value c.in-Array.is) in
-    rw (p.1, p.2) (refused_too (λ none. subst NoSerdeMeans (ap array_tree c.as_slice.ensures ∙ sym is) none)
+    passed_on _ _ c.from_residual-in_err-to_items-in-Array.ensures.1 (refused_too (λ none. subst NoSerdeMeans (ap array_tree c.as_slice.ensures ∙ sym is) none)
     c.in_err-to_items-in-Array.ensures.refused)
 
 pub to_serde-returns-in_err-to_serde_map-in-Object-clause-refused : goal.to_serde-returns-in_err-to_serde_map-in-Object-clause-refused
 to_serde-returns-in_err-to_serde_map-in-Object-clause-refused t c =
-    let p = err_from_is_err_and c.from_residual-in_err-to_serde_map-in-Object.result
-    c.from_residual-in_err-to_serde_map-in-Object.ensures.1 in
     let is = ap (λ v. v.tree) (sym c.destructure_ref.ensures ∙ ap ref_value c.in-Object.is) in
-    rw (p.1, p.2) (refused_too (λ none. subst NoSerdeMeans (sym is) none) c.in_err-to_serde_map-in-Object.ensures.refused)
+    passed_on _ _ c.from_residual-in_err-to_serde_map-in-Object.ensures.1 (refused_too (λ none. subst NoSerdeMeans (sym is) none) c.in_err-to_serde_map-in-Object.ensures.refused)
 
 -- ---- a member
 pub to_serde_map-loop-key-init : goal.to_serde_map-loop-key-init
@@ -107,14 +101,13 @@ to_serde_map-to_serde-requires t c =
 
 pub to_serde_map-returns-in_err-member-clause-refused : goal.to_serde_map-returns-in_err-member-clause-refused
 to_serde_map-returns-in_err-member-clause-refused t c =
-    let p = err_from_is_err_and c.from_residual-in_err-member.result c.from_residual-in_err-member.ensures.1 in
     let done = c.loop-key.invariant.done in
     let u = c.in-Some.value.now in
     let e : List ℕ × WellFormed = (c.in-Some.key.now, u) in
     let s = c.args.object.now in
     let parts = sym (c.loop-key.invariant.parts ∙ ap (λ ps. done ++ ps) c.in-Some.ensures.steps) in
     let has = subst (λ ps. Has e.0 u.tree (pair_trees ps)) parts (has_middle done e c.next.new.self) in
-    rw (p.1, p.2) (refused_too (λ none. object_unmeant (pair_trees s.pairs) (IsWellFormed-object s) e.0 u.tree u.well_formed has none)
+    passed_on _ _ c.from_residual-in_err-member.ensures.1 (refused_too (λ none. object_unmeant (pair_trees s.pairs) (IsWellFormed-object s) e.0 u.tree u.well_formed has none)
     c.in_err-member.ensures.refused)
 
 pub to_serde_map-loop-key-preserved : goal.to_serde_map-loop-key-preserved

@@ -1,26 +1,26 @@
 use Rattle.std.proofs.Common.{◌≡◌, ℕ, List, ◌++◌, ◌+◌, ◌*◌, length, map, take, vec_capacity}
-use Rattle.std.specs.List.{flat_map}
 use Rattle.ijson_value.specs.Sizes.{value_size, object_size}
 use Rattle.ijson_value.specs.Tree.{items_depth}
+use Rattle.ijson_value.specs.Values.{array_tree}
 use Rattle.ijson_value.specs.WellFormed.{WellFormed, item_trees, tree_of}
 use Rattle.ijson_value.specs.laws.MemberTrees.{pair_tree}
 use Rattle.ijson_convert.specs.Interned.{all_interned}
-use Rattle.ijson_convert.proofs.copies.Copies.{item_texts, pair_texts}
+use Rattle.ijson_convert.specs.TextsOf.{texts_of}
+use Rattle.ijson_convert.proofs.pairs.PairsPut.{SoFar}
 use Rattle.ijson_convert.proofs.values_to.+copy.Given as goal
 
 -- the elements so far are copied, and their strings interned
 abbrev pub invariant-copy_items-loop-item : goal.invariant-copy_items-loop-item
 invariant-copy_items-loop-item g l =
     (map tree_of l.array.items ≡ map tree_of (take l.item-index l.items))
-    × (l.cache ≡ all_interned (flat_map item_texts (take l.item-index l.items)) l.fn.cache)
+    × (l.cache ≡ all_interned (texts_of (array_tree (take l.item-index l.items))) l.fn.cache)
 
 -- the entries so far are copied, their strings are interned, and the list has capacity for those left
 abbrev pub invariant-copy_pairs-loop-key : goal.invariant-copy_pairs-loop-key
 invariant-copy_pairs-loop-key g l = record {
   done : List (List ℕ × WellFormed);
   parts : l.fn.object.pairs ≡ done ++ l.key-iterator;
-  trees : map pair_tree l.pairs.items ≡ map pair_tree done;
-  texts : l.cache ≡ all_interned (flat_map pair_texts done) l.fn.cache;
+  so_far : SoFar pair_tree l.fn.cache l.pairs.items done l.cache;
   room : vec_capacity l.pairs ≡ length l.pairs.items + length l.key-iterator;
 }
 

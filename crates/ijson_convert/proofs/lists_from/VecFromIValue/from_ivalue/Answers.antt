@@ -2,7 +2,7 @@ use Rattle.std.proofs.Common.{◌≡◌, ◌+◌, ◌∷◌, [], ◌++◌, take,
 use Rattle.std.proofs.Math.Logic.{⊎_map}
 use Rattle.std.proofs.lemmas.List.{map_more, map_push}
 use Rattle.std.proofs.lemmas.List.Elements.{All-push}
-use Rattle.std.proofs.lemmas.Result.{err_from_is_err_and}
+use Rattle.ijson_convert.proofs.Refusals.{passed_on}
 use Rattle.std.specs.Prelude.{All}
 use Rattle.ijson_value.specs.Opened.{ref_value}
 use Rattle.ijson_value.specs.Same.{SameEach}
@@ -17,11 +17,10 @@ returns-in_err-from_ivalue-clause-refused g c =
     let refused = g.T.FromIValue.refused in
     let xs = c.as_slice-item-items.result.now in
     let i = c.loop-item.item-index in
-    let p = err_from_is_err_and c.from_residual-in_err-from_ivalue.result c.from_residual-in_err-from_ivalue.ensures.1 in
     let e = c.in_err-from_ivalue.field-0.0 in
     let is = ap (λ v. v.tree) (sym c.destructure_ref.ensures ∙ ap ref_value c.in-Array.is) in
     let items = ap (λ vs. items_of (map tree_of vs)) c.as_slice-item-items.ensures in
-    rw (p.1, p.2) (⊎_map (λ memory. memory) (λ r.
+    passed_on _ _ c.from_residual-in_err-from_ivalue.ensures.1 (⊎_map (λ memory. memory) (λ r.
     subst (λ t. ListRefused refused t e) (sym is) (subst (λ ts. FirstRefused refused ts e) items
     (first_refused refused xs i c.item-item.result e (omega (arith, c.loop-item-test.true)) c.loop-item.invariant.read
     (subst (λ v. refused (tree_of v) e) c.item-item.is r)))) c.in_err-from_ivalue.ensures.refused)

@@ -6,7 +6,7 @@ use Rattle.std.specs.Prelude.{All, false, is_err}
 use Rattle.std.proofs.lemmas.List.{append_assoc, append-nil}
 use Rattle.std.proofs.lemmas.List.Elements.{All-nil}
 use Rattle.std.proofs.lemmas.Map.Iter.{rest_more, rest_all}
-use Rattle.std.proofs.lemmas.Result.{err_from_is_err_and}
+use Rattle.ijson_convert.proofs.Refusals.{passed_on}
 use Rattle.ijson_value.specs.Opened.{ref_value}
 use Rattle.ijson_value.specs.Same.{Same}
 use Rattle.ijson_value.specs.Values.{object_tree}
@@ -54,14 +54,13 @@ pub returns-in_err-x-clause-refused : goal.returns-in_err-x-clause-refused
 returns-in_err-x-clause-refused g c =
     let refused = g.T.FromIValue.refused in
     let done = c.loop-key.invariant.done in
-    let p = err_from_is_err_and c.from_residual-in_err-x.result c.from_residual-in_err-x.ensures.1 in
     let e = c.in_err-x.field-0.0 in
     let next = rest_more deref_pair c.loop-key.key-iterator c.next.new.self c.next.result
     (c.in-Some.key, c.in-Some.item) c.in-Some.is c.next.ensures.steps in
     let parts = ap (λ l. done ++ l) (sym next) ∙ c.loop-key.invariant.parts ∙ c.into_iter-key-iterator.ensures.into_iter_gives
     ∙ c.iter-key-items.ensures in
     let is = ap (λ v. v.tree) (sym c.destructure_ref.ensures ∙ ap ref_value c.in-Object.is) in
-    rw (p.1, p.2) (⊎_map (λ memory. memory) (λ r.
+    passed_on _ _ c.from_residual-in_err-x.ensures.1 (⊎_map (λ memory. memory) (λ r.
     subst (λ t. MapRefused refused t e) (sym is) (subst (λ ps. MapRefused refused (object_tree ps) e) parts
     (member_refused refused done c.in-Some.key.now c.in-Some.item.now c.next.new.self e c.loop-key.invariant.read r)))
     c.in_err-x.ensures.refused)

@@ -1,28 +1,16 @@
-use Rattle.std.proofs.Common.{ℕ, List, [], ◌∷◌}
-use Rattle.std.proofs.lemmas.Result.{err_from_is_err_and}
-use Rattle.ijson_value.specs.Tree.{Tree}
+use Rattle.std.proofs.Common.{[], ◌∷◌}
 use Rattle.ijson_convert.proofs.Pushing.{first_fails, then_pushed}
+use Rattle.ijson_convert.proofs.Refusals.{passed_on}
 use Rattle.ijson_convert.proofs.tuples_to.Tuple3ToIValue.to_ivalue.Goals as goal
 
 pub returns-in_err-push_both-clause-refused : goal.returns-in_err-push_both-clause-refused
 returns-in_err-push_both-clause-refused g c =
-    let p = err_from_is_err_and c.from_residual-in_err-push_both.result c.from_residual-in_err-push_both.ensures.1 in
-    let ts : List Tree = g.A.ToIValue.tree c.args.self.now.0 ∷ g.B.ToIValue.tree c.args.self.now.1 ∷ [] in
-    let us : List Tree = g.C.ToIValue.tree c.args.self.now.2 ∷ [] in
-    rw (p.1, p.2) (first_fails {Y = ℕ} ts us c.in_ok-list.list.items c.args.cache.now c.push_both.new.list.items c.push_both.new.cache
-    c.in_err-push_both.field-0.0 c.in_err-push_both.ensures).refused
+    passed_on _ _ c.from_residual-in_err-push_both.ensures.1
+    (first_fails (g.C.ToIValue.tree c.args.self.now.2 ∷ []) c.in_err-push_both.ensures).refused
 
 pub returns-in_err-push_of-clause-refused : goal.returns-in_err-push_of-clause-refused
 returns-in_err-push_of-clause-refused g c =
-    let p = err_from_is_err_and c.from_residual-in_err-push_of.result c.from_residual-in_err-push_of.ensures.1 in
-    let ts : List Tree = g.A.ToIValue.tree c.args.self.now.0 ∷ g.B.ToIValue.tree c.args.self.now.1 ∷ [] in
-    let us : List Tree = g.C.ToIValue.tree c.args.self.now.2 ∷ [] in
-    rw (p.1, p.2) (then_pushed ts us c.in_ok-list.list.items c.args.cache.now c.push_both.new.list.items c.push_of.new.list.items
-    c.push_both.new.cache c.push_of.new.cache c.in_ok-push_both.field-0 c.in_ok-push_both.ensures _ c.in_err-push_of.ensures).refused
+    passed_on _ _ c.from_residual-in_err-push_of.ensures.1 (then_pushed c.in_ok-push_both.ensures c.in_err-push_of.ensures).refused
 
 pub returns-clause-cache : goal.returns-clause-cache
-returns-clause-cache g c =
-    let ts : List Tree = g.A.ToIValue.tree c.args.self.now.0 ∷ g.B.ToIValue.tree c.args.self.now.1 ∷ [] in
-    let us : List Tree = g.C.ToIValue.tree c.args.self.now.2 ∷ [] in
-    (then_pushed ts us c.in_ok-list.list.items c.args.cache.now c.push_both.new.list.items c.push_of.new.list.items
-    c.push_both.new.cache c.push_of.new.cache c.in_ok-push_both.field-0 c.in_ok-push_both.ensures _ c.in_ok-push_of.ensures).ok.1
+returns-clause-cache g c = (then_pushed c.in_ok-push_both.ensures c.in_ok-push_of.ensures).ok.1
