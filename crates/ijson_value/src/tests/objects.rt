@@ -16,6 +16,14 @@ use std::alloc::Global;
 use std::collections::{BTreeMap, HashMap};
 use std::process::Abort;
 
+const ABCD: &[&str] = &["a", "b", "c", "d"];
+
+const ACD: &[&str] = &["a", "c", "d"];
+
+const ADC: &[&str] = &["a", "d", "c"];
+
+const AC: &[&str] = &["a", "c"];
+
 /// Returns an object of these keys, with their indices as values.
 fn of_keys(rt: &impl Abort, alloc: Global, keys: &[&str]) -> IObject {
     let mut object = IObject::new(alloc);
@@ -60,7 +68,7 @@ fn has_keys(object: &IObject, keys: &[&str]) -> bool {
 
 /// Returns an object of the keys a to d.
 fn four(rt: &impl Abort, alloc: Global) -> IObject {
-    of_keys(rt, alloc, &["a", "b", "c", "d"])
+    of_keys(rt, alloc, ABCD)
 }
 
 /// Five keys leave capacity for three more. The value of the first of four is replaced.
@@ -75,7 +83,7 @@ fn insertions(rt: HostRuntime) {
     let old = object.insert(key(&rt, alloc, "a"), of_number(9));
     assert!(rt; number_in(old.expect(&rt, "room")) == Some(0));
     assert!(rt; object.capacity() == 4 && number_at(&object, "a") == 9);
-    assert!(rt; has_keys(&object, &["a", "b", "c", "d"]));
+    assert!(rt; has_keys(&object, ABCD));
     drop(object);
 }
 
@@ -115,50 +123,14 @@ fn removed(
 
 /// Keys, a call with a key, the number of the removed entry, and the remaining keys.
 static REMOVED: [(&[&str], Removal, &str, Option<usize>, &[&str]); 8] = [
-    (
-        &["a", "b", "c", "d"],
-        Removal::Remove,
-        "b",
-        Some(1),
-        &["a", "d", "c"],
-    ),
-    (&["a", "b", "c"], Removal::Remove, "b", Some(1), &["a", "c"]),
-    (&["a", "c"], Removal::Remove, "b", None, &["a", "c"]),
-    (
-        &["a", "d", "c"],
-        Removal::RemoveEntry,
-        "d",
-        Some(1),
-        &["a", "c"],
-    ),
-    (
-        &["a", "b", "c", "d"],
-        Removal::ShiftRemove,
-        "b",
-        Some(1),
-        &["a", "c", "d"],
-    ),
-    (
-        &["a", "c", "d"],
-        Removal::ShiftRemove,
-        "b",
-        None,
-        &["a", "c", "d"],
-    ),
-    (
-        &["a", "b", "c", "d"],
-        Removal::ShiftRemoveEntry,
-        "b",
-        Some(1),
-        &["a", "c", "d"],
-    ),
-    (
-        &["a", "c", "d"],
-        Removal::ShiftRemoveEntry,
-        "b",
-        None,
-        &["a", "c", "d"],
-    ),
+    (ABCD, Removal::Remove, "b", Some(1), ADC),
+    (&["a", "b", "c"], Removal::Remove, "b", Some(1), AC),
+    (AC, Removal::Remove, "b", None, AC),
+    (ADC, Removal::RemoveEntry, "d", Some(1), AC),
+    (ABCD, Removal::ShiftRemove, "b", Some(1), ACD),
+    (ACD, Removal::ShiftRemove, "b", None, ACD),
+    (ABCD, Removal::ShiftRemoveEntry, "b", Some(1), ACD),
+    (ACD, Removal::ShiftRemoveEntry, "b", None, ACD),
 ];
 
 /// A removal keeps the capacity.
@@ -209,7 +181,7 @@ static HELD: [(&str, usize); 3] = [("a", 6), ("c", 7), ("d", 8)];
 #[test]
 fn written(rt: HostRuntime) {
     let alloc = rt.alloc();
-    let mut object = of_keys(&rt, alloc, &["a", "c", "d"]);
+    let mut object = of_keys(&rt, alloc, ACD);
     writes(&rt, &mut object, &key(&rt, alloc, "d"));
     for &(letters, number) in &HELD {
         holds(&rt, &object, letters, number);
@@ -261,9 +233,9 @@ fn named(outcome: Result<IString, RefusedReplacement>) -> (&'static str, IString
 /// Keys to replace in an object of the keys a to d, the new keys, the results, the keys that come back, and the keys then.
 static REPLACED: [(&str, &str, &str, &str, &[&str]); 4] = [
     ("b", "a long key", "Ok", "b", &["a", "a long key", "c", "d"]),
-    ("b", "b", "Ok", "b", &["a", "b", "c", "d"]),
-    ("e", "f", "Missing", "f", &["a", "b", "c", "d"]),
-    ("b", "d", "Exists", "d", &["a", "b", "c", "d"]),
+    ("b", "b", "Ok", "b", ABCD),
+    ("e", "f", "Missing", "f", ABCD),
+    ("b", "d", "Exists", "d", ABCD),
 ];
 
 #[test]
@@ -470,7 +442,7 @@ fn extensions(rt: HostRuntime) {
     let alloc = rt.alloc();
     let mut object = four(&rt, alloc);
     extends(&rt, alloc, &mut object, "a");
-    assert!(rt; object.capacity() == 4 && has_keys(&object, &["a", "b", "c", "d"]));
+    assert!(rt; object.capacity() == 4 && has_keys(&object, ABCD));
     extends(&rt, alloc, &mut object, "e");
     assert!(rt; object.capacity() == 8 && has_keys(&object, &["a", "b", "c", "d", "e"]));
     drop(object);
@@ -624,7 +596,7 @@ fn an_entry_gives_its_key_back(rt: HostRuntime) {
 /// Keys, the key looked up, its number, and the remaining keys.
 static ASKED: [(&[&str], &str, Option<usize>, &[&str]); 2] = [
     (&[], "k", None, &[]),
-    (&["a", "b", "c", "d"], "b", Some(1), &["a", "d", "c"]),
+    (ABCD, "b", Some(1), ADC),
 ];
 
 /// A missing key gets a value once, and a closure is called only if its result is needed.

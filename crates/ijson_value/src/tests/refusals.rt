@@ -7,9 +7,10 @@ mod large;
 mod no_memory;
 mod objects;
 
-use super::built::{Part, built};
+use super::built::Part::{self, Array, Bool, Number, Object, Text};
+use super::built::built;
 use super::objects::{Keys, through_map};
-use super::{is_shown, number_of, of_number};
+use super::{is_shown, of_number};
 use crate::array::IArray;
 use crate::object::IObject;
 use crate::value::IValue;
@@ -204,16 +205,16 @@ fn copies_items(rt: &impl Abort, alloc: Global, items: &[IValue]) {
 
 /// An array of a long number, a string, an array, and an object of a number and an object.
 static CLONED: [Part; 10] = [
-    Part::Number("12345678901234567890123.5"),
-    Part::Text("eight888"),
-    Part::Bool(true),
-    Part::Array(0),
-    Part::Array(2),
-    Part::Number("1"),
-    Part::Array(0),
-    Part::Object(&["a"]),
-    Part::Object(&["k", "longlong"]),
-    Part::Array(4),
+    Number("12345678901234567890123.5"),
+    Text("eight888"),
+    Bool(true),
+    Array(0),
+    Array(2),
+    Number("1"),
+    Array(0),
+    Object(&["a"]),
+    Object(&["k", "longlong"]),
+    Array(4),
 ];
 
 const CLONED_TEXT: &str =
@@ -247,10 +248,10 @@ static MAPS: [(Keys, Option<&str>); 3] = [
 
 /// The entries of the maps, in the order of insertion.
 static PAIRS: [Part; 4] = [
-    Part::Number("1"),
-    Part::Number("2"),
-    Part::Number("3"),
-    Part::Object(&["b", "a", "eight888"]),
+    Number("1"),
+    Number("2"),
+    Number("3"),
+    Object(&["b", "a", "eight888"]),
 ];
 
 /// Returns the object of the entries of the maps.

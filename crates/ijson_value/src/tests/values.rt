@@ -5,7 +5,8 @@ ghost use Rattle.ijson_value.specs.declared.value.ValueType.TheVariants as kind;
 ghost use Rattle.ijson_value.specs.Step.{by_position, by_key, kind_for, tree_at, tree_with};
 ghost use Rattle.ijson_value.specs.Tree.{boolean, null};
 
-use super::built::{Part, built};
+use super::built::Part::{self, Array, Bool, Null, Number, Object, Text};
+use super::built::built;
 use super::{is_shown, set};
 use crate::array::IArray;
 use crate::object::IObject;
@@ -16,7 +17,7 @@ use std::alloc::Global;
 use std::process::Abort;
 
 /// Sets the value at an index to null.
-#[tactic(auto, using(ijson_value::specs::laws::Steps::tree_with_step))]
+#[tactic(auto, using(crate::specs::laws::Steps::tree_with_step))]
 fn clear_item(value: &mut IValue, position: usize)
     requires { IsSome (tree_at value.old.tree (by_position position)) }
     ensures { value.new.tree ≡ tree_with value.old.tree (by_position position) null }
@@ -25,7 +26,7 @@ fn clear_item(value: &mut IValue, position: usize)
 }
 
 /// Sets the value of a key to null, if it exists.
-#[tactic(auto, using(ijson_value::specs::laws::Steps::tree_with_step))]
+#[tactic(auto, using(crate::specs::laws::Steps::tree_with_step))]
 fn clear_member(value: &mut IValue, key: &str) -> bool
     requires { kind_of value.old.tree ≡ kind_for (by_key key.now) }
     ensures there { IsTrue result → value.new.tree ≡ tree_with value.old.tree (by_key key.now) null }
@@ -133,39 +134,31 @@ fn empty_part(value: &mut IValue) {
 
 /// Values, the results of the queries for each, and the debug output after it is emptied.
 static KINDS: [(&[Part], Answers, &str); 8] = [
-    (&[Part::Null], (ValueType::Null, None, None, None), "null"),
+    (&[Null], (ValueType::Null, None, None, None), "null"),
     (
-        &[Part::Bool(true)],
+        &[Bool(true)],
         (ValueType::Bool, Some(true), None, None),
         "false",
     ),
     (
-        &[Part::Bool(false)],
+        &[Bool(false)],
         (ValueType::Bool, Some(false), None, None),
         "true",
     ),
+    (&[Number("2.5")], (ValueType::Number, None, None, None), "0"),
+    (&[Text("s")], (ValueType::String, None, None, None), "\"\""),
     (
-        &[Part::Number("2.5")],
-        (ValueType::Number, None, None, None),
-        "0",
-    ),
-    (
-        &[Part::Text("s")],
-        (ValueType::String, None, None, None),
-        "\"\"",
-    ),
-    (
-        &[Part::Array(0)],
+        &[Array(0)],
         (ValueType::Array, None, Some(0), Some(true)),
         "[]",
     ),
     (
-        &[Part::Number("1"), Part::Number("2"), Part::Array(2)],
+        &[Number("1"), Number("2"), Array(2)],
         (ValueType::Array, None, Some(2), Some(false)),
         "[]",
     ),
     (
-        &[Part::Number("0"), Part::Object(&["k"])],
+        &[Number("0"), Object(&["k"])],
         (ValueType::Object, None, Some(1), Some(false)),
         "{}",
     ),
@@ -201,75 +194,47 @@ fn kinds_and_parts(rt: HostRuntime) {
 }
 
 /// The numbers 1 and 2 as values of `x` and `y`.
-const X_Y: &[Part] = &[
-    Part::Number("1"),
-    Part::Number("2"),
-    Part::Object(&["x", "y"]),
-];
+const X_Y: &[Part] = &[Number("1"), Number("2"), Object(&["x", "y"])];
 
 /// 1 as the value of `x`.
-const X: &[Part] = &[Part::Number("1"), Part::Object(&["x"])];
+const X: &[Part] = &[Number("1"), Object(&["x"])];
 
 /// Two values, whether they are equal, and the debug output of the content of the first.
 static OPENED: [(&[Part], &[Part], bool, &str); 14] = [
-    (&[Part::Null], &[Part::Null], true, "Null"),
+    (&[Null], &[Null], true, "Null"),
+    (&[Bool(true)], &[Bool(false)], false, "Bool(true)"),
+    (&[Bool(true)], &[Bool(true)], true, "Bool(true)"),
+    (&[Number("2")], &[Number("2.0")], true, "Number(2)"),
+    (&[Number("2")], &[Number("3")], false, "Number(2)"),
+    (&[Text("s")], &[Text("t")], false, "String(\"s\")"),
+    (&[Text("")], &[Text("")], true, "String(\"\")"),
     (
-        &[Part::Bool(true)],
-        &[Part::Bool(false)],
-        false,
-        "Bool(true)",
-    ),
-    (&[Part::Bool(true)], &[Part::Bool(true)], true, "Bool(true)"),
-    (
-        &[Part::Number("2")],
-        &[Part::Number("2.0")],
-        true,
-        "Number(2)",
-    ),
-    (
-        &[Part::Number("2")],
-        &[Part::Number("3")],
-        false,
-        "Number(2)",
-    ),
-    (
-        &[Part::Text("s")],
-        &[Part::Text("t")],
-        false,
-        "String(\"s\")",
-    ),
-    (&[Part::Text("")], &[Part::Text("")], true, "String(\"\")"),
-    (
-        &[Part::Number("1"), Part::Array(1)],
-        &[Part::Number("1")],
+        &[Number("1"), Array(1)],
+        &[Number("1")],
         false,
         "Array([1])",
     ),
     (
-        &[Part::Number("1"), Part::Array(1)],
-        &[Part::Number("1"), Part::Number("2"), Part::Array(2)],
+        &[Number("1"), Array(1)],
+        &[Number("1"), Number("2"), Array(2)],
         false,
         "Array([1])",
     ),
     (
-        &[Part::Number("1"), Part::Number("2"), Part::Array(2)],
-        &[Part::Number("1.0"), Part::Number("2"), Part::Array(2)],
+        &[Number("1"), Number("2"), Array(2)],
+        &[Number("1.0"), Number("2"), Array(2)],
         true,
         "Array([1, 2])",
     ),
     (
         X,
-        &[Part::Number("2"), Part::Object(&["x"])],
+        &[Number("2"), Object(&["x"])],
         false,
         "Object({\"x\": 1})",
     ),
     (
         X_Y,
-        &[
-            Part::Number("2.0"),
-            Part::Number("1e0"),
-            Part::Object(&["y", "x"]),
-        ],
+        &[Number("2.0"), Number("1e0"), Object(&["y", "x"])],
         true,
         "Object({\"x\": 1, \"y\": 2})",
     ),
@@ -317,34 +282,34 @@ fn values_opened(rt: HostRuntime) {
 
 /// Values, and the `Debug` text of each: strings are quoted and escaped like `str`.
 static SHOWN: [(&[Part], &str); 12] = [
-    (&[Part::Null], "null"),
-    (&[Part::Bool(true)], "true"),
-    (&[Part::Bool(false)], "false"),
-    (&[Part::Number("-1.50")], "-1.5"),
-    (&[Part::Text("")], "\"\""),
-    (&[Part::Text("short")], "\"short\""),
-    (&[Part::Text("a longer text")], "\"a longer text\""),
-    (&[Part::Text("\"\\\n\u{1}é")], "\"\\\"\\\\\\n\\u{1}é\""),
-    (&[Part::Array(0)], "[]"),
+    (&[Null], "null"),
+    (&[Bool(true)], "true"),
+    (&[Bool(false)], "false"),
+    (&[Number("-1.50")], "-1.5"),
+    (&[Text("")], "\"\""),
+    (&[Text("short")], "\"short\""),
+    (&[Text("a longer text")], "\"a longer text\""),
+    (&[Text("\"\\\n\u{1}é")], "\"\\\"\\\\\\n\\u{1}é\""),
+    (&[Array(0)], "[]"),
     (
         &[
-            Part::Null,
-            Part::Text("a"),
-            Part::Array(1),
-            Part::Text("c"),
-            Part::Object(&["b"]),
-            Part::Array(3),
+            Null,
+            Text("a"),
+            Array(1),
+            Text("c"),
+            Object(&["b"]),
+            Array(3),
         ],
         "[null, [\"a\"], {\"b\": \"c\"}]",
     ),
-    (&[Part::Object(&[])], "{}"),
+    (&[Object(&[])], "{}"),
     (
         &[
-            Part::Text("v"),
-            Part::Text("a longer text"),
-            Part::Bool(true),
-            Part::Array(2),
-            Part::Object(&["k\"", "l"]),
+            Text("v"),
+            Text("a longer text"),
+            Bool(true),
+            Array(2),
+            Object(&["k\"", "l"]),
         ],
         "{\"k\\\"\": \"v\", \"l\": [\"a longer text\", true]}",
     ),
@@ -426,18 +391,60 @@ fn are_integers(
 }
 
 /// Values, and each as an `i32`, a `u32`, an `i64` and a `u64`.
-static INTEGERS: [(Part, Option<i32>, Option<u32>, Option<i64>, Option<u64>); 5] = [
-    (Part::Number("2.0"), Some(2), Some(2), Some(2), Some(2)),
-    (Part::Number("-1"), Some(-1), None, Some(-1), None),
+static INTEGERS: [(Part, Option<i32>, Option<u32>, Option<i64>, Option<u64>); 11] = [
+    (Number("2.0"), Some(2), Some(2), Some(2), Some(2)),
+    (Number("-1"), Some(-1), None, Some(-1), None),
+    (Number("2.5"), None, None, None, None),
+    (Text("2"), None, None, None, None),
     (
-        Part::Number("12345678901234567890.0"),
+        Number("65535"),
+        Some(65535),
+        Some(65535),
+        Some(65535),
+        Some(65535),
+    ),
+    (
+        Number("-2147483648"),
+        Some(-2147483648),
+        None,
+        Some(-2147483648),
+        None,
+    ),
+    (
+        Number("4294967295"),
+        None,
+        Some(4294967295),
+        Some(4294967295),
+        Some(4294967295),
+    ),
+    (
+        Number("-9223372036854775808"),
+        None,
+        None,
+        Some(-9223372036854775808),
+        None,
+    ),
+    (
+        Number("9223372036854775807"),
+        None,
+        None,
+        Some(9223372036854775807),
+        Some(9223372036854775807),
+    ),
+    (
+        Number("12345678901234567890.0"),
         None,
         None,
         None,
         Some(12345678901234567890),
     ),
-    (Part::Number("2.5"), None, None, None, None),
-    (Part::Text("2"), None, None, None, None),
+    (
+        Number("18446744073709551615"),
+        None,
+        None,
+        None,
+        Some(18446744073709551615),
+    ),
 ];
 
 #[test]
@@ -448,62 +455,27 @@ fn integers(rt: HostRuntime) {
     }
 }
 
-/// Returns `true` if a value is this negative integer, which fits an `i32`.
-fn is_negative(value: IValue, want: i32) -> bool {
-    are_integers(value, Some(want), None, Some(i64::from(want)), None)
-}
-
-/// Returns `true` if a value is this integer, which fits each of the four types.
-fn is_small(value: IValue, want: u16) -> bool {
-    let want = i32::from(want);
-    are_integers(
-        value,
-        Some(want),
-        Some(want as u32),
-        Some(want as i64),
-        Some(want as u64),
-    )
+/// Asserts the debug output of a value that was converted.
+fn is_value(rt: &impl Abort, alloc: Global, value: IValue, want: &str) {
+    is_shown(rt, alloc, &value, want);
+    drop(value);
 }
 
 #[test]
-fn narrow_widths(rt: HostRuntime) {
-    assert!(rt; is_negative(i8::MIN.into(), -128) && is_negative(i32::MIN.into(), i32::MIN));
-    assert!(rt; is_small(i16::MAX.into(), 32767));
-    assert!(rt; is_small(u8::MAX.into(), 255) && is_small(u16::MAX.into(), 65535));
-}
-
-/// The maximum `u64`.
-const GREATEST: u64 = 18446744073709551615;
-
-const GREATEST_SIGNED: i64 = 9223372036854775807;
-
-const LEAST: i64 = -9223372036854775808;
-
-#[test]
-fn wide_widths(rt: HostRuntime) {
-    let u32_max = 4294967295;
-    assert!(rt;
-        are_integers(
-            u32::MAX.into(),
-            None,
-            Some(u32_max),
-            Some(4294967295),
-            Some(4294967295)
-        )
-    );
-    assert!(rt; are_integers(i64::MIN.into(), None, None, Some(LEAST), None));
-    let both = (Some(GREATEST_SIGNED), Some(9223372036854775807));
-    assert!(rt; are_integers(isize::MAX.into(), None, None, both.0, both.1));
-    assert!(rt; are_integers(u64::MAX.into(), None, None, None, Some(GREATEST)));
-    assert!(rt; are_integers(usize::MAX.into(), None, None, None, Some(GREATEST)));
-}
-
-#[test]
-fn options(rt: HostRuntime) {
-    let (truth, none) = (IValue::from(Some(true)), IValue::from(None::<u8>));
-    assert!(rt; truth.is_true() && none.is_null());
-    drop(truth);
-    drop(none);
+fn integers_and_options_are_values(rt: HostRuntime) {
+    let alloc = rt.alloc();
+    is_value(&rt, alloc, i8::MIN.into(), "-128");
+    is_value(&rt, alloc, i16::MAX.into(), "32767");
+    is_value(&rt, alloc, i32::MIN.into(), "-2147483648");
+    is_value(&rt, alloc, i64::MIN.into(), "-9223372036854775808");
+    is_value(&rt, alloc, isize::MAX.into(), "9223372036854775807");
+    is_value(&rt, alloc, u8::MAX.into(), "255");
+    is_value(&rt, alloc, u16::MAX.into(), "65535");
+    is_value(&rt, alloc, u32::MAX.into(), "4294967295");
+    is_value(&rt, alloc, u64::MAX.into(), "18446744073709551615");
+    is_value(&rt, alloc, usize::MAX.into(), "18446744073709551615");
+    is_value(&rt, alloc, IValue::from(Some(true)), "true");
+    is_value(&rt, alloc, IValue::from(None::<u8>), "null");
 }
 
 /// Writes to the array of `b`, and sets `c` to null.
@@ -542,7 +514,7 @@ fn is_edited(rt: &impl Abort, value: &mut IValue) {
 /// Removal keeps the capacity of an array, as it does that of an object.
 #[test]
 fn a_removal_keeps_the_capacity(rt: HostRuntime) {
-    let three = [Part::Null, Part::Null, Part::Null, Part::Array(3)];
+    let three = [Null, Null, Null, Array(3)];
     let mut value = built(&rt, rt.alloc(), &three);
     assert!(rt; value.is_array());
     drop(value.remove(0usize).expect(&rt, "an element"));
@@ -552,13 +524,13 @@ fn a_removal_keeps_the_capacity(rt: HostRuntime) {
 
 /// `{"a": 1, "b": [2, 3], "c": {"d": 0.5}}`
 static FOUND: [Part; 7] = [
-    Part::Number("1"),
-    Part::Number("2"),
-    Part::Number("3"),
-    Part::Array(2),
-    Part::Number("0.5"),
-    Part::Object(&["d"]),
-    Part::Object(&["a", "b", "c"]),
+    Number("1"),
+    Number("2"),
+    Number("3"),
+    Array(2),
+    Number("0.5"),
+    Object(&["d"]),
+    Object(&["a", "b", "c"]),
 ];
 
 #[test]
