@@ -1,6 +1,6 @@
 //! Writes the JSON text of standard input to standard output, without white space.
 //!
-//! `src/tests` has the tests of the program, and those of texts, devices and whole values in the crates it uses.
+//! The tests are in `src/tests`.
 #![tactic(auto)]
 
 ghost use Rattle.std.specs.Prelude.{◌≡◌, OnOk, OnErr, IfSome, IfErr, MatchResult, Err};

@@ -1,7 +1,6 @@
 //! JSON text: reading, writing, and compacting from a source to a sink.
 //!
-//! The tests are in `ijson_compact/src/tests` (reading and writing, error positions, devices, `compact` and `report`),
-//! `ijson/src/tests/errors.rt` (error messages), and `ijson_extra/src/tests/refusals` (failed allocations).
+//! The tests are in `src/tests`, those of error messages in `ijson/src/tests/errors.rt`.
 #![tactic(auto)]
 
 mod compacting;
@@ -12,6 +11,8 @@ mod located;
 mod read;
 mod reporting;
 mod scan;
+#[cfg(test)]
+mod tests;
 mod write;
 
 ghost use Rattle.ijson_json.specs.OneTree.{OneTree};

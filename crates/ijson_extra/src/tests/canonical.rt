@@ -1,9 +1,9 @@
 //! Tests of canonical text.
 
-use super::refusals::large::push_members;
 use super::{empty_cache, is_written, parsed};
 use crate::canonical::canonical_json;
-use ijson_json::{JsonError, from_json};
+use ijson_json::{JsonError, from_json, push_separator};
+use ijson_number::INumber;
 use ijson_value::array::IArray;
 use ijson_value::value::IValue;
 use std::alloc::{AllocError, Global};
@@ -104,6 +104,17 @@ fn canonical_at_any_depth(rt: HostRuntime) {
     is_written(&rt, alloc, &value, text.as_str());
     drop(value);
     is_too_deep(&rt, alloc, text.as_str());
+}
+
+/// Appends `count` members, with keys of six digits in order.
+fn push_members(rt: &impl Abort, text: &mut String, count: u32) {
+    for n in 0..count {
+        push_separator(text, n == 0).expect(rt, "room");
+        text.push('"').expect(rt, "room");
+        let number = INumber::from(n.wrapping_add(100_000));
+        number.push_to(text).expect(rt, "room");
+        text.push_str("\":0").expect(rt, "room");
+    }
 }
 
 /// Returns a list of a string, zeros, an object and a number, with `behind` after the number.

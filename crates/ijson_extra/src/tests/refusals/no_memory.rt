@@ -4,7 +4,6 @@
 use super::{Cache, interned, spelled};
 use crate::pointer::{resolve, resolve_mut};
 use crate::tests::{empty_cache, key, parsed, set};
-use ijson_json::{CompactError, MemorySink, Sink, line_and_column, report};
 use ijson_number::{Form, INumber, Looks, first_fault};
 use ijson_string::IString;
 use ijson_table::{FixedTable, LinearPairs, PairStore, ReserveError, locate};
@@ -40,7 +39,7 @@ fn numbers(rt: &impl Abort, alloc: Global, rounds: u32) {
     let more = spelled(rt, alloc, "18446744073709551616.5");
     for _ in 0..rounds {
         assert!(*rt; are_in_order(&less, &more) && is_list_with_point(&more));
-        assert!(*rt; first_fault("01") == Some(1) && line_and_column("a\nb", 2).line == 2);
+        assert!(*rt; first_fault("01") == Some(1));
     }
     drop(less);
     drop(more);
@@ -177,22 +176,12 @@ fn pointers(rt: &impl Abort, alloc: Global, rounds: u32) {
     drop(value);
 }
 
-fn reports(rt: &impl Abort, alloc: Global, rounds: u32) {
-    let mut errors = granted!(rt; MemorySink::new(alloc, 4, 21_000));
-    for _ in 0..rounds {
-        assert!(*rt; errors.failures() == 0);
-        assert!(*rt; report(&Err(CompactError::Memory), &mut errors) == 3);
-        assert!(*rt; errors.bytes().ends_with(b"ijson: out of memory\n"));
-    }
-}
-
 fn all(rt: &impl Abort, alloc: Global, rounds: u32) {
     numbers(rt, alloc, rounds);
     texts(rt, alloc, rounds);
     lists(rt, alloc, rounds);
     tables(rt, alloc, rounds);
     pointers(rt, alloc, rounds);
-    reports(rt, alloc, rounds);
     // The first allocation after the others.
     let last = spelled(rt, alloc, "18446744073709551616");
     assert!(*rt; last.to_u64().is_none());

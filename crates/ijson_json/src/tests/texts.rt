@@ -2,7 +2,7 @@
 
 use super::devices::compacts;
 use super::{nested, parsed, rewritten};
-use ijson_json::JsonError;
+use crate::JsonError;
 use ijson_value::value::{DestructuredRef, IValue};
 use std::alloc::Global;
 use std::process::Abort;

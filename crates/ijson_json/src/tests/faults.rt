@@ -2,7 +2,7 @@
 
 use super::devices::compacts;
 use super::{nested, rewritten};
-use ijson_json::JsonError;
+use crate::JsonError;
 use std::alloc::{AllocError, Global};
 use std::process::Abort;
 

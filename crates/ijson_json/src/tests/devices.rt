@@ -3,10 +3,8 @@
 ghost use Rattle.std.specs.Prelude.{◌<◌, IfOk};
 ghost use Rattle.ijson_json.specs.Compacts.{IsCompactLine};
 
-mod program;
-
 use super::empty_cache;
-use ijson_json::{
+use crate::{
     CompactError, DeviceFault, JsonError, MemorySink, MemorySource, Sink, Source, StreamSink,
     StreamSource, compact, report,
 };

@@ -1,7 +1,7 @@
 //! The allocations of `compact`. `tests/alloc/same-requests` compares the two tests.
 
 use super::empty_cache;
-use ijson_json::{MemorySink, MemorySource, Sink, compact, from_json};
+use crate::{MemorySink, MemorySource, Sink, compact, from_json};
 use std::alloc::Global;
 use std::process::Abort;
 

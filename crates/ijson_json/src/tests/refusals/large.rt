@@ -1,8 +1,8 @@
 //! Texts of many letters, elements and entries, with each allocation failing once.
 
 use super::{is_compacted, text_of_room, used_cache};
+use crate::push_separator;
 use crate::tests::{is_written, parsed};
-use ijson_json::push_separator;
 use ijson_number::INumber;
 use ijson_value::value::IValue;
 use std::alloc::{AllocError, Global};
@@ -16,7 +16,7 @@ fn push_times(rt: &impl Abort, text: &mut String, part: &str, times: u32) {
 }
 
 /// Appends `count` members, with keys of six digits in order.
-pub fn push_members(rt: &impl Abort, text: &mut String, count: u32) {
+fn push_members(rt: &impl Abort, text: &mut String, count: u32) {
     for n in 0..count {
         push_separator(text, n == 0).expect(rt, "room");
         text.push('"').expect(rt, "room");
@@ -42,7 +42,7 @@ fn of_much(rt: &impl Abort, alloc: Global) -> String {
 /// Copies a value of this text.
 fn copied(rt: &impl Abort, alloc: Global, value: &IValue, text: &str) -> IValue {
     let copy = granted!(rt; value.clone());
-    assert!(*rt; copy == *value);
+    assert!(rt; copy == *value);
     is_written(rt, alloc, &copy, text);
     copy
 }

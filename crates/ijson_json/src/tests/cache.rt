@@ -1,7 +1,7 @@
 //! The strings that reading adds to the cache, and that no result depends on it.
 
 use super::{empty_cache, is_written};
-use ijson_json::from_json;
+use crate::from_json;
 
 #[test]
 fn long_texts_are_interned_once(rt: HostRuntime) {
