@@ -1,4 +1,22 @@
 -- A call that lends a part of its first or second argument, and a call that maps the result of another. Assumes `Logic`.
+-- the names that the callers cite
+pub use denote.Ref.{NamedLft}
+pub use denote.Slice.{shr_slice_vals}
+pub use denote.Text.{Str, StrRefOf, str-field, str-laws, str-copy}
+pub use mir.Val.{of_list}
+pub use Rattle.std.specs.Option.{ghost_name_of}
+pub use Rattle.std.specs.contracts.option.Option.{the_row as OptionOf}
+pub use Rattle.std.proofs.mem.Facts.{says_two}
+pub use Rattle.std.proofs.option.Made.{Some-of}
+pub use Rattle.ijson_value.specs.NodeValue.{node_value}
+pub use Rattle.ijson_value.specs.WellFormed.{WellFormed}
+pub use Rattle.ijson_value.specs.contracts.value.Destructured.{the_row as N}
+pub use Rattle.ijson_value.specs.contracts.value.IValue.{the_row as V}
+pub use Rattle.ijson_value.specs.declared.value.Destructured.{Destructured}
+pub use Rattle.ijson_value.proofs.lends.Called.{back, lent}
+pub use Rattle.ijson_value.proofs.lends.LentLaws.{value_found_laws}
+pub use Rattle.ijson_value.proofs.lends.LentOn.{then_such}
+pub use Rattle.ijson_extra.proofs.tokens.Options.{on_both}
 use mathlib.Core.List.{List, [], ◌∷◌}
 use seplogic.Ra.Ura.{Ura}
 use base.Fml.{Fml, Lft, Share, ftrue, flft}
@@ -10,7 +28,7 @@ use lib.Dec.{T}
 use denote.Param.Laws.{Laws, of_field, row_shared}
 use denote.Builtin.{bool}
 use denote.Param.Shared.{mut_ref_shared, copy_shared}
-use denote.Ref.{MutRef, NamedLft}
+use denote.Ref.{MutRef}
 use denote.RattleType.{RattleType}
 use denote.Steps.{nothing, peeks}
 use denote.Struct.Field.{mut_ref_field, bool-field}
@@ -24,7 +42,6 @@ use sound.WpLaws.{FmC}
 use types.Kit.{Item, Post, Seq, mean, runs, lands, ‵, raw, ◌⊛◌, some, later, ◌$◌, ◌∵◌, !, qed, done, move, drop, split, join, use0, use1, use2, pick, await}
 use types.Logic.{Logic}
 use types.Run.{Opds}
-use Rattle.ijson_value.specs.contracts.value.Destructured.{the_row as N}
 use Rattle.ijson_value.proofs.value.Destructured.TheLaws.{the_row_laws as node_laws}
 
 -- the laws of a reference to the content of a value
@@ -71,8 +88,7 @@ module _ {M : Type 1} {𝓤 : Ura M} (𝓛 : Logic 𝓤) {K : Type 0} {Γ : List
       pick t (λ ws. split t $ drop t $ split t $ move t (1 ∷ 2 ∷ 0 ∷ []) $ go w y ((laws.lawful 𝓛).typed y (w ∷ []) seen)))))
 
   -- the mapped result, the token and what is known of the result
-  pub maps : (own : Fml) (i : Item 𝓤) → ent 𝓤 (emp 𝓤) (mean 𝓛 i)
-      → ent 𝓤 (sep 𝓤 (mean 𝓛 ((‵ (flft κ q) ⊛ ‵ ftrue) ⊛ ‵ own ⊛ ‵ ftrue)) (mean 𝓛 i)) (c.pre x)
+  pub maps : (own : Fml) → ent 𝓤 (sep 𝓤 (mean 𝓛 ((‵ (flft κ q) ⊛ ‵ ftrue) ⊛ ‵ own ⊛ ‵ ftrue)) (mean 𝓛 (‵ ftrue))) (c.pre x)
       → Opds K 𝓛 (raw (c.pre x) ∷ Γ) E xs (c.args x)
       → (L : R.Denot → W → Fml) (J : R.Denot → Item 𝓤)
       → ((w : Val) → ent 𝓤 (c.post x w) (mean 𝓛 (later (some (λ (y : R.Denot).
@@ -80,8 +96,8 @@ module _ {M : Type 1} {𝓤 : Ura M} (𝓛 : Logic 𝓤) {K : Type 0} {Γ : List
       → ((w : Val) (y : R.Denot) → Typed R.mir (w ∷ []) → Seq K 𝓛
       (J y ∷ ‵ (R.own_val y (w ∷ [])) ∷ ‵ (flft κ q) ∷ Γ) (lands C Λ E d w rest post))
       → Seq K 𝓛 (‵ own ∷ ‵ (flft κ q) ∷ Γ) (runs C Λ E (seq (call f xs d) rest) post)
-  maps own i shown enough reads L J gives go =
-      nothing t $ move t (1 ∷ 0 ∷ []) $ join t $ nothing t $ move t (2 ∷ 0 ∷ []) $ join t $ join t $ use0 𝓛 i shown $ move t (1 ∷ 0 ∷ []) $
+  maps own enough reads L J gives go =
+      nothing t $ move t (1 ∷ 0 ∷ []) $ join t $ nothing t $ move t (2 ∷ 0 ∷ []) $ join t $ join t $ nothing t $ move t (1 ∷ 0 ∷ []) $
       use2 𝓛 (raw (c.pre x)) enough $ calls_at t frames c met x reads (λ w.
       use1 𝓛 (later (some (λ (y : R.Denot). ((‵ (flft κ q) ⊛ ‵ ftrue) ⊛ ‵ (R.own_val y (w ∷ []))) ⊛
       some (λ (ws : W). ‵ (L y ws) ⊛ J y)))) (gives w) $ await t tt $ pick t (λ y. split t $ split t $ split t $ move t (2 ∷ []) $

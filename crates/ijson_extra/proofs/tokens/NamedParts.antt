@@ -1,7 +1,7 @@
 -- The element or member that a token refers to, and the container with another one there.
 use Rattle.std.proofs.Common.{◌≡◌, ℕ, ◌≤◌, Bool, true, false, List, Option, Some, None, refl, sym, ap, ◌∙◌, length, MutBor}
 use Rattle.std.specs.Prelude.{OnSome, option_map, option_and_then, slice_get, set, get_or}
-use Rattle.std.proofs.lemmas.Option.{slice_get_past, slice_get-get_or}
+use Rattle.std.proofs.lemmas.Option.{slice_get_past, slice_get-get_or, option_and_then_some}
 use Rattle.ijson_table.specs.Store.{Store, at, lookup}
 use Rattle.ijson_table.proofs.pairs.PairsByKey.{lookup-found, position_within}
 use Rattle.ijson_table.specs.StoreWithValue.{store_with_value}
@@ -91,17 +91,12 @@ member_put o token m r w is found = on_some r (λ some.
     some in
     tree_with_step (Object o) (by_key m) w there ∙ sym (ap (λ x. meant_with (object_tree o.pairs) x w.tree) is))
 
-meant_some : (ps : List (List ℕ × WellFormed)) (o : Option (List ℕ)) (i : ℕ) → Some i ≡ option_and_then (at ps) o → (m : List ℕ)
-    × (o ≡ Some m) × (at ps m ≡ Some i)
-meant_some ps None i e = not_both i (sym e)
-meant_some ps (Some m) i e = (m, refl, sym e)
-
 -- and by the index of the key
 module _ (o : Store WellFormed) (token : List ℕ) (i : ℕ) (r : Option (MutBor WellFormed))
     (named : Some i ≡ option_and_then (at o.pairs) (meant token))
     (lent : option_map (λ v. v.now) r ≡ option_map (λ pair. pair.1) (slice_get o.pairs i)) where
   means : (m : List ℕ) × (meant token ≡ Some m) × (at o.pairs m ≡ Some i)
-  means = meant_some o.pairs (meant token) i named
+  means = option_and_then_some (at o.pairs) (meant token) i (sym named) (λ m is found. (m, is, found))
 
   pair_there : (d : List ℕ × WellFormed) → option_map (λ pair. pair.1) (slice_get o.pairs i) ≡ lookup means.0 o.pairs
   pair_there d =

@@ -22,7 +22,3 @@ on_seen (Some v) t e p = p
 pub there_too : (r : Option (MutBor WellFormed)) (o : Option Tree) → option_map (λ v. v.now.tree) r ≡ o → IsSome r → IsSome o
 there_too None o e h = absurd (cc)
 there_too (Some v) o e h = rw (sym e) refl
-
-pub some_there : {A : Type 0} (o : Option A) → IsSome o → (x : A) × (o ≡ Some x)
-some_there None h = absurd (cc)
-some_there (Some x) h = (x, refl)

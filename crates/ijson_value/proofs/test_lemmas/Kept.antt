@@ -22,27 +22,17 @@ module _ (k₁ k₂ : List ℕ) (v₁ v₂ : WellFormed) (old ps : List (List �
     (apart : k₁ ≢ k₂)
     (first : ps ≡ put old k₁ (unwrap_or (lookup k₁ old) v₁)) (second : s.pairs ≡ put ps k₂ (unwrap_or (lookup k₂ ps) v₂)) where
   two_put : s.pairs ≡ (k₁, v₁) ∷ (k₂, v₂) ∷ []
-  two_put =
-      let one : ps ≡ (k₁, v₁) ∷ [] = first ∙ ap (λ ps. put ps k₁ (unwrap_or (lookup k₁ ps) v₁)) empty in
-      let missing : lookup k₂ ps ≡ None =
-      ap (lookup k₂) one ∙ ap (λ b. cond b (Some v₁) None) (other_bytes k₂ k₁ (λ e. apart (sym e))) in
-      second ∙ ap (λ o. put ps k₂ (unwrap_or o v₂)) missing ∙ ap (λ ps. put ps k₂ v₂) one
-      ∙ ap (λ b. if b then (k₁, v₂) ∷ [] else (k₁, v₁) ∷ (k₂, v₂) ∷ []) (other_bytes k₁ k₂ apart)
+  two_put = simp (second, first, empty, other_bytes k₁ k₂ apart, other_bytes k₂ k₁ (λ e. apart (sym e)))
 
   -- the second key is found
   pub second_there : (r : Option (MutBor WellFormed)) → option_copied_mut r ≡ lookup k₂ s.pairs → IsSome r
   second_there r got =
-      some_there r v₂ (got ∙ ap (lookup k₂) two_put
-      ∙ ap (λ b. cond b (Some v₁) (lookup k₂ ((k₂, v₂) ∷ []))) (other_bytes k₂ k₁ (λ e. apart (sym e)))
-      ∙ ap (λ b. cond b (Some v₂) None) ((bytes_decides k₂ k₂).1 refl))
+      some_there r v₂ (got ∙ simp (two_put, other_bytes k₂ k₁ (λ e. apart (sym e)), (bytes_decides k₂ k₂).1 refl))
 
   -- and has the value written
   pub second_written : (w : WellFormed) → (with_found s (at s.pairs k₂) w).pairs ≡ (k₁, v₁) ∷ (k₂, w) ∷ []
   second_written w =
-      let found : at s.pairs k₂ ≡ Some 1 =
-      position-distinct (keys_of s.pairs) k₂ 1 s.distinct
-      (omega (arith, ap (λ (ps : List (List ℕ × WellFormed)). length (keys_of ps)) two_put))
-      (ap (λ (ps : List (List ℕ × WellFormed)). get_or (keys_of ps) 1 []) two_put) in
+      let found : at s.pairs k₂ ≡ Some 1 = simp (two_put, other_bytes k₁ k₂ apart, (bytes_decides k₂ k₂).1 refl) in
       ap (λ i. (with_found s i w).pairs) found ∙ ap (λ ps. with_value ps 1 w) two_put
 
 -- a test for a true value returns false for false

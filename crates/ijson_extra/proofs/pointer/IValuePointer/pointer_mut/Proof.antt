@@ -7,23 +7,11 @@ use Rattle.ijson_value.proofs.lends.Steps.{pass_all, free_all, look_at, get, thr
 use Rattle.ijson_value.proofs.lends.Steps.{RattleType, MutRef, Bor, mut_vals, mut_Tells, plain, mut_ref_to, nothing, heard, only, live}
 use Rattle.ijson_value.proofs.lends.Steps.{lasts, triple_of, Stays, walk_of, stay_dropped, Goes-dropped, Goes-spent_ref, ends_at, framed, follows}
 use mathlib.Core.Bool.{true≢false}
-use mir.Val.{of_list}
-use denote.Text.{Str, StrRefOf, str-laws, str-copy}
-use denote.Slice.{shr_slice_vals}
-use denote.Ref.{NamedLft}
-use Rattle.std.specs.Option.{ghost_name_of}
-use Rattle.std.specs.contracts.option.Option.{the_row as OptionOf}
-use Rattle.std.proofs.option.Made.{Some-of}
-use Rattle.ijson_value.specs.NodeValue.{node_value}
-use Rattle.ijson_value.specs.WellFormed.{WellFormed}
-use Rattle.ijson_value.specs.contracts.value.IValue.{the_row as V}
 use Rattle.std.specs.Prelude.{Option, Some, Bool, ◌↔◌, IsTrue, OnSome}
-use Rattle.ijson_value.specs.contracts.value.Destructured.{the_row as N}
-use Rattle.ijson_value.specs.declared.value.Destructured.{Destructured}
-use Rattle.ijson_value.proofs.lends.LentOn.{then_such, itself_so}
-use Rattle.ijson_value.proofs.lends.LentLaws.{value_found_laws}
-use Rattle.ijson_extra.proofs.lends.Mapped.{finds, maps, no_need, opened_laws, bool_laws, truth, falsehood}
-use Rattle.ijson_extra.proofs.tokens.Options.{on_both}
+use Rattle.ijson_value.proofs.lends.LentOn.{itself_so}
+use Rattle.ijson_extra.proofs.lends.Mapped.{of_list, Str, StrRefOf, str-laws, str-copy, shr_slice_vals, NamedLft, ghost_name_of, OptionOf, Some-of}
+use Rattle.ijson_extra.proofs.lends.Mapped.{node_value, WellFormed, V, N, Destructured, then_such, value_found_laws, finds, maps}
+use Rattle.ijson_extra.proofs.lends.Mapped.{opened_laws, bool_laws, truth, falsehood, on_both}
 use Rattle.ijson_extra.specs.LendsNamedValue.{LendsPointed}
 use Rattle.ijson_extra.specs.Pointer.{resolved_with}
 use Rattle.ijson_extra.specs.private.Walked.{LendsNamedInside, node_tree, tree_lent, found_at}
@@ -62,8 +50,7 @@ pointer_mut_spec 𝓤 𝓛 𝓜 𝓡 wired =
     let G = triple_of 𝓛 g.signature (g.spec 𝓛 𝓜.mem 𝓡.returns) in
     let z : G.Ghost = (((κ', tt), (q', tt), tt, (p, tt), (ps, tt)), tt) in
     move ! (0 ∷ 4 ∷ []) $ maps 𝓛 ! κ' q' (framed 𝓤 𝓛.H 𝓜 𝓣) G
-    (g-thm.met 𝓤 𝓛 𝓜 𝓡 (code.calls-ijson_extra::pointer::lend::names_itself 𝓡.env wired)) z bool bool_laws (S.own_val p ps) (‵ ftrue)
-    (no_need 𝓛) (id⊢ 𝓤 _) (and_then ! (get ! refl) (no_more !)) (λ t (ends : Unit {0} × Unit {0}). lasts g.ended (κ', tt) (p, tt) ends)
+    (g-thm.met 𝓤 𝓛 𝓜 𝓡 (code.calls-ijson_extra::pointer::lend::names_itself 𝓡.env wired)) z bool bool_laws (S.own_val p ps) (id⊢ 𝓤 _) (and_then ! (get ! refl) (no_more !)) (λ t (ends : Unit {0} × Unit {0}). lasts g.ended (κ', tt) (p, tt) ends)
     (λ (t : Bool). raw (fact 𝓤 (IsTrue t ↔ (p.now ≡ [])))) (λ v. id⊢ 𝓤 _) (λ v t _. heard ! _ (λ said. feq_l ! (λ is.
     lands_as ! (ap only is) refl (tt, tt) $
     -- [the text's token; the text; value; its token]
@@ -84,7 +71,7 @@ pointer_mut_spec 𝓤 𝓛 𝓜 𝓡 wired =
     let z₂ : O.Ghost = (((κ, tt), (q, tt), tt, (r, tt), (vs, tt)), tt) in
     move ! (2 ∷ 3 ∷ []) $ maps 𝓛 ! κ q (framed 𝓤 𝓛.H 𝓜 𝓣) O
     (o-thm.met 𝓤 𝓛 𝓜 𝓡 (code.calls-ijson_extra::pointer::lend::opened 𝓡.env wired)) z₂ (MutRef (named 0) κ N) (opened_laws κ)
-    (Lent.own_val r vs) (‵ ftrue) (no_need 𝓛) (id⊢ 𝓤 _) (and_then ! (get ! refl) (no_more !))
+    (Lent.own_val r vs) (id⊢ 𝓤 _) (and_then ! (get ! refl) (no_more !))
     (λ u (ends : Unit {0} × Unit {0}). lasts o.ended (κ, tt) (r, tt) ends)
     (λ (u : MutBor Destructured). ‵ (follows V N r.ghost_name u.ghost_name node_value) ⊛ raw (fact 𝓤 (node_value u.now ≡ r.now)))
     (λ x. id⊢ 𝓤 _) (λ x u typed. lands_as ! refl refl typed.0 $ split ! $ move ! (1 ∷ []) $

@@ -18,31 +18,20 @@ use Rattle.std.proofs.Common.{◌<◌}
 use mathlib.Core.Option as maybe
 use mathlib.Core.List.{◌++◌}
 use base.Fml.{fex}
-use mir.Val.{of_list}
-use denote.Text.{Str, StrRefOf, str-field, str-laws, str-copy}
 use denote.Param.Shared.{copy_shared}
-use denote.Slice.{shr_slice_vals}
 use denote.Laws.{Is}
-use denote.Ref.{NamedLft}
 use Rattle.std.specs.Prelude.{Option, Some, None, length, OnSome, IfSome, IfNone}
-use Rattle.std.specs.Option.{ghost_name_of}
-use Rattle.std.specs.contracts.option.Option.{the_row as OptionOf}
-use Rattle.std.proofs.option.Made.{none_of, Some-of}
+use Rattle.std.proofs.option.Made.{none_of}
 use Rattle.std.proofs.option.Option.TheLaws.{the_row_laws as option_laws}
-use Rattle.ijson_value.specs.NodeValue.{node_value}
 use Rattle.ijson_value.specs.Tree.{Tree}
-use Rattle.ijson_value.specs.WellFormed.{WellFormed}
 use Rattle.ijson_extra.specs.Pointer.{written_tokens, resolved_with}
 use Rattle.ijson_extra.specs.private.Walked.{LendsNamed, LendsNamedInside, tree_lent, node_tree, first_of, found_at, written_at, written_with}
 use Rattle.ijson_extra.proofs.tokens.Walked.{none_first, next_found, next_with, next_left}
-use Rattle.ijson_extra.proofs.tokens.Options.{on_both}
-use Rattle.ijson_value.proofs.lends.LentLaws.{value_found_laws}
-use Rattle.ijson_value.proofs.lends.LentOn.{then_such, so_none, none_so}
+use Rattle.ijson_value.proofs.lends.LentOn.{so_none, none_so}
 use Rattle.ijson_value.proofs.lends.Variants.{by_option, none_out, Some-out}
-use Rattle.ijson_value.specs.contracts.value.IValue.{the_row as V}
-use Rattle.ijson_value.specs.contracts.value.Destructured.{the_row as N}
-use Rattle.ijson_extra.proofs.lends.Mapped.{finds, maps, no_need, opened_laws}
-use Rattle.ijson_value.specs.declared.value.Destructured.{Destructured}
+use Rattle.ijson_extra.proofs.lends.Mapped.{of_list, Str, StrRefOf, str-field, str-laws, str-copy, shr_slice_vals, NamedLft, ghost_name_of, OptionOf}
+use Rattle.ijson_extra.proofs.lends.Mapped.{Some-of, node_value, WellFormed, on_both, value_found_laws, then_such, V, N, finds, maps, no_need}
+use Rattle.ijson_extra.proofs.lends.Mapped.{opened_laws, Destructured}
 use Rattle.ijson_extra.proofs.pointer.lend.+walk.{statement}
 use Rattle.ijson_extra.proofs.pointer.lend.+walk.Code as codes
 use Rattle.ijson_extra.proofs.pointer.lend.+walk.Code.+walk as code
@@ -137,7 +126,7 @@ pub +walk_spec : {M : Type 1} → statement M
           move ! (5 ∷ 2 ∷ []) $ maps 𝓛 ! κ' q' (framed 𝓤 𝓛.H 𝓜 𝓣) G₃
           (b-thm.met 𝓤 𝓛 𝓜 𝓡 (codes.calls-ijson_extra::pointer::lend::behind_first 𝓡.env wired)) z₃ (OptionOf S)
           (option_laws S (of_field (str-field at) (str-laws at) refl (copy_shared (str-field at) (str-copy at)))) (S.own_val p ps)
-          (‵ ftrue) (no_need 𝓛) (id⊢ 𝓤 _)
+          (id⊢ 𝓤 _)
           (and_then ! (get ! refl) (no_more !)) (λ left (ends : Unit {0} × Unit {0}). lasts b.ended (κ', tt) (p, tt) ends)
           (λ (o : Option (Bor (List ℕ))). raw (fact 𝓤 (IfSome o (λ left. (length left.now < length p.now)
           × (written_tokens p.now ≡ token ∷ written_tokens left.now))))
@@ -187,7 +176,7 @@ pub +walk_spec : {M : Type 1} → statement M
                 let z₂ : G₂.Ghost = (((κ, tt), (q, tt), tt, (value, tt), (mut_vals value, tt)), tt) in
                 move ! (2 ∷ 5 ∷ []) $ maps 𝓛 ! κ q (framed 𝓤 𝓛.H 𝓜 𝓣) G₂
                 (h-thm.met 𝓤 𝓛 𝓜 𝓡 (codes.calls-ijson_extra::pointer::lend::opened 𝓡.env wired)) z₂ (MutRef (named 0) κ N) (opened_laws κ)
-                (Lent.own_val value (mut_vals value)) (‵ ftrue) (no_need 𝓛) (id⊢ 𝓤 _) (and_then ! (get ! refl) (no_more !))
+                (Lent.own_val value (mut_vals value)) (id⊢ 𝓤 _) (and_then ! (get ! refl) (no_more !))
                 (λ u (ends : Unit {0} × Unit {0}). lasts h.ended (κ, tt) (value, tt) ends)
                 (λ (u : MutBor Destructured). ‵ (follows V N value.ghost_name u.ghost_name node_value)
                 ⊛ raw (fact 𝓤 (node_value u.now ≡ value.now)))

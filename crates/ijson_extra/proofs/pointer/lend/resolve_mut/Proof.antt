@@ -6,21 +6,13 @@ use Rattle.ijson_value.proofs.lends.Steps.{stop, no_more, and_then, first, branc
 use Rattle.ijson_value.proofs.lends.Steps.{pass_all, free_all, look_at, get, through, sets, lands_as, agg, env, bool, yes, no}
 use Rattle.ijson_value.proofs.lends.Steps.{RattleType, MutRef, Bor, mut_vals, mut_Tells, plain, mut_ref_to, nothing, heard, only, live}
 use Rattle.ijson_value.proofs.lends.Steps.{lasts, triple_of, Stays, walk_of, stay_dropped, Goes-dropped, Goes-spent_ref, ends_at, framed}
-use mir.Val.{of_list}
-use denote.Text.{Str, StrRefOf, str-laws, str-copy}
-use denote.Slice.{shr_slice_vals}
-use denote.Ref.{NamedLft}
-use Rattle.std.specs.contracts.option.Option.{the_row as OptionOf}
-use Rattle.ijson_value.specs.WellFormed.{WellFormed}
-use Rattle.ijson_value.specs.contracts.value.IValue.{the_row as V}
 use Rattle.std.specs.Prelude.{Option, Ok, Err, Bool, is_some}
 use Rattle.std.specs.contracts.result.Result.{the_row as ResultOf}
-use Rattle.std.proofs.mem.Facts.{says_two}
 use Rattle.std.proofs.result.Made.{Ok-of, Err-of}
 use Rattle.ijson_value.proofs.lends.LentOn.{none_so}
-use Rattle.ijson_value.proofs.lends.LentLaws.{value_found_laws}
 use Rattle.ijson_value.proofs.lends.Variants.{and_tt, variant_made}
-use Rattle.ijson_extra.proofs.lends.Mapped.{finds, maps, no_need, bool_laws, truth, falsehood}
+use Rattle.ijson_extra.proofs.lends.Mapped.{of_list, Str, StrRefOf, str-laws, str-copy, shr_slice_vals, NamedLft, OptionOf, WellFormed, V, says_two}
+use Rattle.ijson_extra.proofs.lends.Mapped.{value_found_laws, finds, maps, no_need, bool_laws, truth, falsehood}
 use Rattle.ijson_extra.proofs.tokens.Walked.{named_found, not_named_none}
 use Rattle.ijson_extra.specs.LendsNamedValue.{LendsNamedValue, LendsPointed, IfLent}
 use Rattle.ijson_extra.specs.Pointer.{tokens_of, resolved_with}
@@ -60,8 +52,7 @@ resolve_mut_spec 𝓤 𝓛 𝓜 𝓡 wired =
     let G = triple_of 𝓛 g.signature (g.spec 𝓛 𝓜.mem 𝓡.returns) in
     let z : G.Ghost = (((κ', tt), (q', tt), tt, (p, tt), (ps, tt)), tt) in
     move ! (0 ∷ 4 ∷ []) $ maps 𝓛 ! κ' q' (framed 𝓤 𝓛.H 𝓜 𝓣) G
-    (g-thm.met 𝓤 𝓛 𝓜 𝓡 (code.calls-ijson_extra::pointer::lend::is_pointer 𝓡.env wired)) z bool bool_laws (S.own_val p ps) (‵ ftrue)
-    (no_need 𝓛) (id⊢ 𝓤 _) (and_then ! (get ! refl) (no_more !)) (λ t (ends : Unit {0} × Unit {0}). lasts g.ended (κ', tt) (p, tt) ends)
+    (g-thm.met 𝓤 𝓛 𝓜 𝓡 (code.calls-ijson_extra::pointer::lend::is_pointer 𝓡.env wired)) z bool bool_laws (S.own_val p ps) (id⊢ 𝓤 _) (and_then ! (get ! refl) (no_more !)) (λ t (ends : Unit {0} × Unit {0}). lasts g.ended (κ', tt) (p, tt) ends)
     (λ (t : Bool). raw (fact 𝓤 (t ≡ is_some (tokens_of p.now)))) (λ v. id⊢ 𝓤 _) (λ v t _. heard ! _ (λ said. feq_l ! (λ is.
     lands_as ! (ap only is) refl (tt, tt) $
     -- [the text's token; the text; value; its token]

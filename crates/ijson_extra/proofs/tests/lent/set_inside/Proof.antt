@@ -11,19 +11,12 @@ use contract.BorrowLft.{◌⊑◌}
 use denote.Param.{bounded}
 use denote.Param.Laws.{copied_copy, copied_laws, IsCopy}
 use Rattle.std.specs.Prelude.{Option, None, Some, true, IsSome, IfSome, OnSome, option_map}
-use Rattle.std.specs.Option.{ghost_name_of}
-use Rattle.std.specs.contracts.option.Option.{the_row as OptionOf}
-use Rattle.std.proofs.mem.Facts.{says_two}
 use Rattle.ijson_value.specs.Kind.{kind_of}
 use Rattle.ijson_value.specs.LendsInside.{LendsInsideIf}
 use Rattle.ijson_value.specs.Step.{Step, kind_for, tree_at, tree_with}
 use Rattle.ijson_value.specs.Tree.{boolean}
 use Rattle.ijson_value.specs.Values.{boolean_value}
-use Rattle.ijson_value.specs.WellFormed.{WellFormed}
-use Rattle.ijson_value.specs.contracts.value.IValue.{the_row as V}
-use Rattle.ijson_value.proofs.lends.Called.{lent}
-use Rattle.ijson_value.proofs.lends.LentLaws.{value_found_laws}
-use Rattle.ijson_extra.proofs.lends.Mapped.{finds, maps, no_need}
+use Rattle.ijson_extra.proofs.lends.Mapped.{ghost_name_of, OptionOf, says_two, WellFormed, V, lent, value_found_laws, finds, maps}
 use Rattle.ijson_extra.proofs.test_lemmas.LentPart.{Left, written_back}
 use Rattle.ijson_extra.specs.contracts.tests.lent.set_inside as f
 use Rattle.ijson_extra.proofs.tests.lent.set_inside.Statement.{statement}
@@ -87,7 +80,7 @@ set_inside_spec 𝓤 𝓛 𝓜 𝓡 wired I LI CI gx dx gs ds gc dc mx ms mc =
     let z' : H.Ghost = (((β, tt), (full_share, tt), tt, (x, tt), ((v ∷ []), tt)), tt) in
     move ! (0 ∷ 2 ∷ []) $ maps 𝓛 ! β full_share (framed 𝓤 𝓛.H 𝓜 𝓣) H
     (h-thm.met 𝓤 𝓛 𝓜 𝓡 (code.calls-ijson_extra::tests::lent::put_found 𝓡.env wired)) z' Found (value_found_laws β)
-    (Found.own_val x (v ∷ [])) (‵ ftrue) (no_need 𝓛) (id⊢ 𝓤 _) (and_then ! (get ! refl) (no_more !)) (λ o ws. lasts h.ended (β, tt) (x, tt) ws)
+    (Found.own_val x (v ∷ [])) (id⊢ 𝓤 _) (and_then ! (get ! refl) (no_more !)) (λ o ws. lasts h.ended (β, tt) (x, tt) ws)
     (λ o. raw (fact 𝓤 (ghost_name_of x ≡ ghost_name_of o)) ⊛ raw (fact 𝓤 (IfSome o (λ place. place.now ≡ boolean_value true)))) (λ w. id⊢ 𝓤 _)
     (λ w o typed. split ! $ heard ! _ (λ same. heard ! _ (λ put. lands_as ! refl refl typed.0 $
     written_back 𝓛 V (P r.now step x) (λ n. n ≡ r.now) ! tt κ q r α δ (ghost_name_of x) o (w ∷ []) (‵ (flft κ' q') ⊛ ‵ ftrue) same (λ n is.

@@ -14,8 +14,6 @@ use denote.Param.Laws.{copied_copy, copied_laws, IsCopy}
 use Rattle.std.specs.Prelude.{Option, None, Some, true, IfSome, option_map, option_and_then, slice_get}
 use Rattle.std.proofs.lemmas.Option.{slice_get-get_or}
 use Rattle.ijson_table.proofs.pairs.PairsByKey.{position_within}
-use Rattle.std.specs.Option.{ghost_name_of}
-use Rattle.std.specs.contracts.option.Option.{the_row as OptionOf}
 use Rattle.std.specs.Map.Iter.{deref_pair_mut}
 use borrow.Follows.Kept.{follows_itself}
 use denote.Ref.{Bor}
@@ -24,13 +22,10 @@ use Rattle.ijson_value.specs.AtKey.{pair_at_key}
 use Rattle.ijson_value.specs.LendsAtKey.{with_found, with_key}
 use Rattle.ijson_value.specs.LendsPair.{LendsPairIf, pair_name}
 use Rattle.ijson_value.specs.Values.{boolean_value, null_value}
-use Rattle.ijson_value.specs.WellFormed.{WellFormed}
 use Rattle.ijson_value.specs.contracts.object.map.IObject.{the_row as N}
-use Rattle.ijson_value.specs.contracts.value.IValue.{the_row as V}
-use Rattle.ijson_value.proofs.lends.Called.{lent}
-use Rattle.ijson_value.proofs.lends.LentLaws.{Pair, pair_found_laws, value_found_laws}
+use Rattle.ijson_value.proofs.lends.LentLaws.{Pair, pair_found_laws}
 use Rattle.ijson_value.proofs.lends.LentOn.{then_so}
-use Rattle.ijson_extra.proofs.lends.Mapped.{finds, maps, no_need}
+use Rattle.ijson_extra.proofs.lends.Mapped.{ghost_name_of, OptionOf, WellFormed, V, lent, value_found_laws, finds, maps}
 use Rattle.ijson_extra.proofs.test_lemmas.LentPart.{Left, written_back}
 use Rattle.ijson_extra.specs.contracts.tests.lent.set_pair as f
 use Rattle.ijson_extra.proofs.tests.lent.set_pair.Statement.{statement}
@@ -104,7 +99,7 @@ set_pair_spec 𝓤 𝓛 𝓜 𝓡 wired I LI CI gx dx gs ds gc dc mx ms mc =
     let z' : H.Ghost = (((β, tt), (full_share, tt), tt, (x, tt), ((v ∷ []), tt)), tt) in
     move ! (0 ∷ 2 ∷ []) $ maps 𝓛 ! β full_share (framed 𝓤 𝓛.H 𝓜 𝓣) H
     (h-thm.met 𝓤 𝓛 𝓜 𝓡 (code.calls-ijson_extra::tests::lent::put_entry 𝓡.env wired)) z' Out (value_found_laws β)
-    (Found.own_val x (v ∷ [])) (‵ ftrue) (no_need 𝓛) (id⊢ 𝓤 _) (and_then ! (get ! refl) (no_more !)) (λ o ws. lasts h.ended (β, tt) (x, tt) ws)
+    (Found.own_val x (v ∷ [])) (id⊢ 𝓤 _) (and_then ! (get ! refl) (no_more !)) (λ o ws. lasts h.ended (β, tt) (x, tt) ws)
     (λ o. raw (fact 𝓤 (pair_name x ≡ ghost_name_of o)) ⊛ raw (fact 𝓤 (IfSome o (λ place. place.now ≡ boolean_value true)))) (λ w. id⊢ 𝓤 _)
     (λ w o typed. split ! $ heard ! _ (λ same. heard ! _ (λ put. lands_as ! refl refl typed.0 $
     move ! (2 ∷ []) $ use0 𝓛 (‵ (follows N N δ δ (λ w. w))) (follows_itself 𝓛 N δ) $

@@ -4,17 +4,12 @@ use Rattle.ijson_value.proofs.lends.Steps.{vunit, fact, tables, ‵, raw, ◌⊛
 use Rattle.ijson_value.proofs.lends.Steps.{suffices, frame, enter, of_opd, addr, unit_lit, stop, no_more, and_then, returns, alloc_all}
 use Rattle.ijson_value.proofs.lends.Steps.{pass_all, free_all, look_at, get, through, sets, lands_as, MutRef, mut_vals, mut_Tells, plain}
 use Rattle.ijson_value.proofs.lends.Steps.{nothing, heard, lasts, triple_of, Stays, walk_of, stay_ref, Goes-ref, ends_at, framed, lft_end}
-use denote.Ref.{NamedLft}
-use Rattle.std.proofs.mem.Facts.{says_two}
 use Rattle.ijson_value.specs.LendsParts.{LendsParts}
 use Rattle.ijson_value.specs.Opened.{mut_value}
-use Rattle.ijson_value.specs.WellFormed.{WellFormed}
-use Rattle.ijson_value.specs.contracts.value.IValue.{the_row as V}
 use Rattle.ijson_value.specs.contracts.value.destructure.DestructuredMut.{the_row as PartsOf}
 use Rattle.ijson_value.proofs.value.destructure.DestructuredMut.TheLaws.{the_row_laws as parts_laws}
 use Rattle.ijson_value.specs.declared.value.destructure.DestructuredMut.{DestructuredMut}
-use Rattle.ijson_value.proofs.lends.Called.{back, lent}
-use Rattle.ijson_extra.proofs.lends.Mapped.{maps, no_need}
+use Rattle.ijson_extra.proofs.lends.Mapped.{NamedLft, says_two, WellFormed, V, back, lent, maps}
 use Rattle.ijson_extra.proofs.test_lemmas.TurnedParts.{negated, parts_left}
 use Rattle.ijson_extra.specs.private.Turned.{IsTurned}
 use Rattle.ijson_extra.specs.contracts.tests.lent.turn_truth as f
@@ -49,7 +44,7 @@ turn_truth_spec 𝓤 𝓛 𝓜 𝓡 wired =
     let z : G.Ghost = (((β, tt), (full_share, tt), tt, (r', tt), (vs, tt)), tt) in
     move ! (0 ∷ 2 ∷ []) $ maps 𝓛 ! β full_share (framed 𝓤 𝓛.H 𝓜 𝓣) G
     (g-thm.met 𝓤 𝓛 𝓜 𝓡 (code.calls-ijson_value::value::IValue::destructure_mut 𝓡.env wired)) z (PartsOf at) (parts_laws at) (Ref β r')
-    (‵ ftrue) (no_need 𝓛) (id⊢ 𝓤 _) (and_then ! (get ! refl) (no_more !)) (λ x (ws : Unit {0} × Unit {0}). lasts g.ended (β, tt) (r', tt) ws)
+    (id⊢ 𝓤 _) (and_then ! (get ! refl) (no_more !)) (λ x (ws : Unit {0} × Unit {0}). lasts g.ended (β, tt) (r', tt) ws)
     (λ (x : DestructuredMut). ‵ (LendsParts r' x) ⊛ raw (fact 𝓤 (mut_value x ≡ r.now))) (λ v. id⊢ 𝓤 _) (λ v x typed.
     split ! $ move ! (1 ∷ []) $ heard ! _ (λ seen. lands_as ! refl refl typed.0 $
     -- [the formula of the loan; the parts; the token of α; what the lender keeps]
@@ -57,7 +52,7 @@ turn_truth_spec 𝓤 𝓛 𝓜 𝓡 wired =
     let z' : H.Ghost = (((β, tt), (full_share, tt), tt, (x, tt), ((v ∷ []), tt)), tt) in
     move ! (1 ∷ 2 ∷ []) $ maps 𝓛 ! β full_share (framed 𝓤 𝓛.H 𝓜 𝓣) H
     (h-thm.met 𝓤 𝓛 𝓜 𝓡 (code.calls-ijson_extra::tests::lent::turned_parts 𝓡.env wired)) z' (PartsOf at) (parts_laws at)
-    ((PartsOf at).own_val x (v ∷ [])) (‵ ftrue) (no_need 𝓛) (id⊢ 𝓤 _) (and_then ! (get ! refl) (no_more !)) (λ o ws. lasts h.ended (β, tt) (x, tt) ws)
+    ((PartsOf at).own_val x (v ∷ [])) (id⊢ 𝓤 _) (and_then ! (get ! refl) (no_more !)) (λ o ws. lasts h.ended (β, tt) (x, tt) ws)
     (λ o. raw (fact 𝓤 (IsTurned x o))) (λ w. id⊢ 𝓤 _) (λ w o typed. heard ! _ (λ is. lands_as ! refl refl typed.0 $
     -- [the parts; the token of α; the formula of the loan; what the lender keeps]
     move ! (0 ∷ 2 ∷ []) $
