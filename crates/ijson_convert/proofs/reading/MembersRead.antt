@@ -38,35 +38,37 @@ pub no_member : (done : List (List ℕ × WellFormed)) (key : String Global) (k 
 no_member done key k u is lacks h =
     lacks_it k u (pair_trees done) (subst (Lacks k) (sym (member_keys-pairs done)) lacks) (subst (λ j. Has j u (pair_trees done)) is h)
 
+-- members that are the same as some of the old ones are the same as some of the new ones
+module _ (old new : Members) (grows : (k : List ℕ) (u : Tree) → Has k u old → Has k u new) where
+  pub widened : (ps : Members) → SameIn ps old → SameIn ps new
+  widened no_members s = tt
+  widened (member k t ps) s = ((s.0.0, grows k s.0.0 s.0.1, s.0.2), widened ps s.1)
+
 -- ---- one more entry of the map
 module _ {X : Type 0} (tree : X → Tree) where
   abbrev pub map_members : List (String Global × X) → Members
   map_members es = members_of (map (pair_tree tree) es)
 
-  module _ (old new : Members) (grows : (k : List ℕ) (u : Tree) → Has k u old → Has k u new) where
-    pub widened : (ps : Members) → SameIn ps old → SameIn ps new
-    widened no_members s = tt
-    widened (member k t ps) s = ((s.0.0, grows k s.0.0 s.0.1, s.0.2), widened ps s.1)
-
-    module _ (key : String Global) (x : X) (lacks : (u : Tree) → Has (string_bytes key) u old → ⊥)
-        (partner : (u : Tree) × Has (string_bytes key) u new × Same (tree x) u) where
-      inserted : (es : List (String Global × X)) → SameIn (map_members es) old
-          → (members_len (map_members (insert_entry string_cmp es key x)) ≡ suc (members_len (map_members es)))
-          × SameIn (map_members (insert_entry string_cmp es key x)) new
-      inserted [] s = (refl, (partner, tt))
-      inserted (e ∷ es) s = elim (string_cmp key e.0)
-          as (λ o. string_cmp key e.0 ≡ o
-          → (members_len (map_members (match_ordering o ((key, x) ∷ e ∷ es) ((e.0, x) ∷ es) (e ∷ insert_entry string_cmp es key x))) ≡ suc
-          (suc (members_len (map_members es))))
-          × SameIn (map_members (match_ordering o ((key, x) ∷ e ∷ es) ((e.0, x) ∷ es) (e ∷ insert_entry string_cmp es key x))) new) [
-            | Less ↦ λ _. (refl, (partner, widened (map_members (e ∷ es)) s))
-            | Equal ↦ λ same.
-                let one_key : string_bytes key ≡ string_bytes e.0 = exact_bytes (string_bytes key) (string_bytes e.0) same in
-                absurd (lacks s.0.0 (subst (λ k. Has k s.0.0 old) (sym one_key) s.0.1))
-            | Greater ↦ λ _.
-                let rest = inserted es s.1 in
-                (ap suc rest.0, ((s.0.0, grows (string_bytes e.0) s.0.0 s.0.1, s.0.2), rest.1))
-          ] refl
+  module _ (old new : Members) (grows : (k : List ℕ) (u : Tree) → Has k u old → Has k u new) (key : String Global) (x : X)
+      (lacks : (u : Tree) → Has (string_bytes key) u old → ⊥)
+      (partner : (u : Tree) × Has (string_bytes key) u new × Same (tree x) u) where
+    inserted : (es : List (String Global × X)) → SameIn (map_members es) old
+        → (members_len (map_members (insert_entry string_cmp es key x)) ≡ suc (members_len (map_members es)))
+        × SameIn (map_members (insert_entry string_cmp es key x)) new
+    inserted [] s = (refl, (partner, tt))
+    inserted (e ∷ es) s = elim (string_cmp key e.0)
+        as (λ o. string_cmp key e.0 ≡ o
+        → (members_len (map_members (match_ordering o ((key, x) ∷ e ∷ es) ((e.0, x) ∷ es) (e ∷ insert_entry string_cmp es key x))) ≡ suc
+        (suc (members_len (map_members es))))
+        × SameIn (map_members (match_ordering o ((key, x) ∷ e ∷ es) ((e.0, x) ∷ es) (e ∷ insert_entry string_cmp es key x))) new) [
+          | Less ↦ λ _. (refl, (partner, widened old new grows (map_members (e ∷ es)) s))
+          | Equal ↦ λ same.
+              let one_key : string_bytes key ≡ string_bytes e.0 = exact_bytes (string_bytes key) (string_bytes e.0) same in
+              absurd (lacks s.0.0 (subst (λ k. Has k s.0.0 old) (sym one_key) s.0.1))
+          | Greater ↦ λ _.
+              let rest = inserted es s.1 in
+              (ap suc rest.0, ((s.0.0, grows (string_bytes e.0) s.0.0 s.0.1, s.0.2), rest.1))
+        ] refl
 
   -- the map with the entry and the members with theirs mean the same, if the key is new
   pub member_same : (es grown : List (String Global × X)) (done : List (List ℕ × WellFormed)) (key : String Global) (k : List ℕ) (x : X)
