@@ -25,6 +25,7 @@ use std::hash::BuildHasher;
 /// # Errors
 ///
 /// Returns `Number` for a float of `serde_json`, whatever its value.
+#[tactic(auto, using(crate::proofs::serde_trees::SerdeNumbers::numbers_here))]
 pub fn from_serde_number(number: &Number) -> Result<INumber, ConvertError>
     ensures number { IfOk result (λ made. SerdeNumber (number_view number.now) made.decimal) }
     ensures refused { IfErr result (λ e.

@@ -54,7 +54,7 @@ module _ {X : Type 0} (tree : X → Tree) where
 
     one_more : IsPermutation ((key, x) ∷ m.entries) n.entries → Same (map_tree tree n.entries) (object_tree (done ++ (k, v) ∷ []))
     one_more moved =
-        let more = widened tree (pair_trees done) grown (has_more done ((k, v) ∷ [])) (map_members tree m.entries) s.1 in
+        let more = widened (pair_trees done) grown (has_more done ((k, v) ∷ [])) (map_members tree m.entries) s.1 in
         let here : IsAmong grown (key, x) = (v.tree, subst (λ j. Has j v.tree grown) (sym is) (has_middle done (k, v) []), same) in
         let each = All-cons (IsAmong grown) (key, x) m.entries here (each_among grown m.entries more) in
         let counted = length_permutation ((key, x) ∷ m.entries) n.entries moved in

@@ -2,22 +2,25 @@
 use Rattle.std.proofs.Common.{◌≡◌, ℕ, suc, List, [], ◌∷◌, ◌++◌, map, refl, ap, sym, subst, ◌∙◌}
 use Rattle.std.specs.BTreeMap.{insert_entry}
 use Rattle.std.specs.Ordering.{match_ordering}
-use Rattle.std.specs.Prelude.{String, string_bytes, string_cmp}
+use Rattle.std.specs.Map.{values_of}
+use Rattle.std.specs.Prelude.{All, String, string_bytes, string_cmp}
 use Rattle.std.specs.declared.alloc.Global.{Global}
 use Rattle.std.specs.declared.cmp.Ordering.TheVariants.{Less, Equal, Greater}
+use Rattle.std.proofs.lemmas.List.{append_assoc, append-nil, map-append}
+use Rattle.std.proofs.lemmas.List.Elements.{All-nil}
 use Rattle.std.proofs.lemmas.Map.Lookups.{exact_bytes}
-use Rattle.ijson_table.specs.Store.{Lacks, keys_of}
+use Rattle.ijson_table.specs.Store.{Lacks, IsDistinct, keys_of}
 use Rattle.ijson_value.specs.Same.{Same, SameIn, Has}
 use Rattle.ijson_value.specs.Tree.{Tree, Items, Members, no_members, member, members_of, members_len, items_of}
 use Rattle.ijson_value.specs.Values.{object_tree}
-use Rattle.ijson_value.specs.WellFormed.{WellFormed, tree_of, pair_trees}
+use Rattle.ijson_value.specs.WellFormed.{WellFormed, IsWellFormed, tree_of, pair_trees}
 use Rattle.ijson_value.specs.laws.HoldsWellFormed.{member_keys-pairs}
 use Rattle.ijson_value.specs.laws.SameLaws.{lacks_it}
 use Rattle.ijson_convert.specs.IsRead.{IsRead}
 use Rattle.ijson_convert.specs.MapTree.{pair_tree, map_tree}
 use Rattle.ijson_convert.specs.Refused.{FirstRefused, MapRefused, member_values}
 use Rattle.ijson_convert.specs.declared.convert_error.ConvertError.{ConvertError}
-use Rattle.ijson_convert.proofs.pairs.PairTrees.{has_more, has_middle, len_last}
+use Rattle.ijson_convert.proofs.pairs.PairTrees.{has_more, has_middle, len_last, key_is_new}
 use Rattle.ijson_convert.proofs.reading.ItemsRead.{AllRead, read_pushed, refused_behind}
 
 -- the trees of the values of entries
@@ -29,76 +32,112 @@ values_are : (ps : List (List ℕ × WellFormed)) → member_values (pair_trees 
 values_are [] = refl
 values_are (p ∷ ps) = ap (Items.item p.1.tree) (values_are ps)
 
--- the trees of two concatenated lists
-values_pushed : (ps qs : List (List ℕ × WellFormed)) → value_trees (ps ++ qs) ≡ value_trees ps ++ value_trees qs
-values_pushed [] qs = refl
-values_pushed (p ∷ ps) qs = ap (λ l. p.1.tree ∷ l) (values_pushed ps qs)
-
--- ---- rejected or read
-module _ (Refused : Tree → ConvertError → Type 0) where
-  -- one more member is read
-  pub member_read : (done : List (List ℕ × WellFormed)) (k : List ℕ) (v : WellFormed) → AllRead Refused (value_trees done)
-      → IsRead Refused v.tree → AllRead Refused (value_trees (done ++ (k, v) ∷ []))
-  member_read done k v a r =
-      subst (AllRead Refused) (sym (values_pushed done ((k, v) ∷ []))) (read_pushed Refused (value_trees done) v.tree a r)
-
-  -- if all values are read, the map is
-  pub all_read : (ps : List (List ℕ × WellFormed)) → AllRead Refused (value_trees ps) → IsRead (MapRefused Refused) (object_tree ps)
-  all_read ps a = λ e r. a e (subst (λ items. FirstRefused Refused items e) (values_are ps) r)
-
-  -- the first rejected value is that of the map
-  pub member_refused : (done : List (List ℕ × WellFormed)) (k : List ℕ) (v : WellFormed) (left : List (List ℕ × WellFormed))
-      (e : ConvertError)
-      → AllRead Refused (value_trees done) → Refused v.tree e → MapRefused Refused (object_tree (done ++ (k, v) ∷ left)) e
-  member_refused done k v left e a r =
-      subst (λ items. FirstRefused Refused items e) (sym (values_are (done ++ (k, v) ∷ left)
-      ∙ ap items_of (values_pushed done ((k, v) ∷ left))))
-      (refused_behind Refused (value_trees done) v.tree (value_trees left) e a r)
-
 -- members that lack a key have no entry with it
 pub no_member : (done : List (List ℕ × WellFormed)) (key : String Global) (k : List ℕ) (u : Tree) → string_bytes key ≡ k
     → Lacks k (keys_of done) → Has (string_bytes key) u (pair_trees done) → ⊥
 no_member done key k u is lacks h =
     lacks_it k u (pair_trees done) (subst (Lacks k) (sym (member_keys-pairs done)) lacks) (subst (λ j. Has j u (pair_trees done)) is h)
 
+-- members that are the same as some of the old ones are the same as some of the new ones
+module _ (old new : Members) (grows : (k : List ℕ) (u : Tree) → Has k u old → Has k u new) where
+  pub widened : (ps : Members) → SameIn ps old → SameIn ps new
+  widened no_members s = tt
+  widened (member k t ps) s = ((s.0.0, grows k s.0.0 s.0.1, s.0.2), widened ps s.1)
+
 -- ---- one more entry of the map
 module _ {X : Type 0} (tree : X → Tree) where
   abbrev pub map_members : List (String Global × X) → Members
   map_members es = members_of (map (pair_tree tree) es)
 
-  module _ (old new : Members) (grows : (k : List ℕ) (u : Tree) → Has k u old → Has k u new) where
-    pub widened : (ps : Members) → SameIn ps old → SameIn ps new
-    widened no_members s = tt
-    widened (member k t ps) s = ((s.0.0, grows k s.0.0 s.0.1, s.0.2), widened ps s.1)
-
-    module _ (key : String Global) (x : X) (lacks : (u : Tree) → Has (string_bytes key) u old → ⊥)
-        (partner : (u : Tree) × Has (string_bytes key) u new × Same (tree x) u) where
-      inserted : (es : List (String Global × X)) → SameIn (map_members es) old
-          → (members_len (map_members (insert_entry string_cmp es key x)) ≡ suc (members_len (map_members es)))
-          × SameIn (map_members (insert_entry string_cmp es key x)) new
-      inserted [] s = (refl, (partner, tt))
-      inserted (e ∷ es) s = elim (string_cmp key e.0)
-          as (λ o. string_cmp key e.0 ≡ o
-          → (members_len (map_members (match_ordering o ((key, x) ∷ e ∷ es) ((e.0, x) ∷ es) (e ∷ insert_entry string_cmp es key x))) ≡ suc
-          (suc (members_len (map_members es))))
-          × SameIn (map_members (match_ordering o ((key, x) ∷ e ∷ es) ((e.0, x) ∷ es) (e ∷ insert_entry string_cmp es key x))) new) [
-            | Less ↦ λ _. (refl, (partner, widened (map_members (e ∷ es)) s))
-            | Equal ↦ λ same.
-                let one_key : string_bytes key ≡ string_bytes e.0 = exact_bytes (string_bytes key) (string_bytes e.0) same in
-                absurd (lacks s.0.0 (subst (λ k. Has k s.0.0 old) (sym one_key) s.0.1))
-            | Greater ↦ λ _.
-                let rest = inserted es s.1 in
-                (ap suc rest.0, ((s.0.0, grows (string_bytes e.0) s.0.0 s.0.1, s.0.2), rest.1))
-          ] refl
+  module _ (old new : Members) (grows : (k : List ℕ) (u : Tree) → Has k u old → Has k u new) (key : String Global) (x : X)
+      (lacks : (u : Tree) → Has (string_bytes key) u old → ⊥)
+      (partner : (u : Tree) × Has (string_bytes key) u new × Same (tree x) u) where
+    inserted : (es : List (String Global × X)) → SameIn (map_members es) old
+        → (members_len (map_members (insert_entry string_cmp es key x)) ≡ suc (members_len (map_members es)))
+        × SameIn (map_members (insert_entry string_cmp es key x)) new
+    inserted [] s = (refl, (partner, tt))
+    inserted (e ∷ es) s = elim (string_cmp key e.0)
+        as (λ o. string_cmp key e.0 ≡ o
+        → (members_len (map_members (match_ordering o ((key, x) ∷ e ∷ es) ((e.0, x) ∷ es) (e ∷ insert_entry string_cmp es key x))) ≡ suc
+        (suc (members_len (map_members es))))
+        × SameIn (map_members (match_ordering o ((key, x) ∷ e ∷ es) ((e.0, x) ∷ es) (e ∷ insert_entry string_cmp es key x))) new) [
+          | Less ↦ λ _. (refl, (partner, widened old new grows (map_members (e ∷ es)) s))
+          | Equal ↦ λ same.
+              let one_key : string_bytes key ≡ string_bytes e.0 = exact_bytes (string_bytes key) (string_bytes e.0) same in
+              absurd (lacks s.0.0 (subst (λ k. Has k s.0.0 old) (sym one_key) s.0.1))
+          | Greater ↦ λ _.
+              let rest = inserted es s.1 in
+              (ap suc rest.0, ((s.0.0, grows (string_bytes e.0) s.0.0 s.0.1, s.0.2), rest.1))
+        ] refl
 
   -- the map with the entry and the members with theirs mean the same, if the key is new
-  pub member_same : (es : List (String Global × X)) (done : List (List ℕ × WellFormed)) (key : String Global) (k : List ℕ) (x : X)
+  pub member_same : (es grown : List (String Global × X)) (done : List (List ℕ × WellFormed)) (key : String Global) (k : List ℕ) (x : X)
       (v : WellFormed)
-      → string_bytes key ≡ k → Lacks k (keys_of done) → Same (map_tree tree es) (object_tree done) → Same (tree x) v.tree
-      → Same (map_tree tree (insert_entry string_cmp es key x)) (object_tree (done ++ (k, v) ∷ []))
-  member_same es done key k x v is lacks s same =
+      → grown ≡ insert_entry string_cmp es key x → string_bytes key ≡ k → Lacks k (keys_of done)
+      → Same (map_tree tree es) (object_tree done) → Same (tree x) v.tree → Same (map_tree tree grown) (object_tree (done ++ (k, v) ∷ []))
+  member_same es grown done key k x v put is lacks s same =
       let more = inserted (pair_trees done) (pair_trees (done ++ (k, v) ∷ [])) (has_more done ((k, v) ∷ [])) key x
       (λ u h. no_member done key k u is lacks h)
       (v.tree, subst (λ j. Has j v.tree (pair_trees (done ++ (k, v) ∷ []))) (sym is) (has_middle done (k, v) []), same)
       es s.1 in
+      subst (λ l. Same (map_tree tree l) (object_tree (done ++ (k, v) ∷ []))) (sym put)
       (more.0 ∙ ap suc s.0 ∙ sym (len_last done (k, v)), more.1)
+
+-- ---- the members of an object so far are read, the map means the same, and each null in it that may be None is
+pub record ReadSoFar {X : Type 0} (tree : X → Tree) (Refused : Tree → ConvertError → Type 0) (NullIsNone : X → Type 0)
+    (object : WellFormed) (left : List (List ℕ × WellFormed)) (es : List (String Global × X)) : Type 0 where
+  pub done : List (List ℕ × WellFormed)
+  pub parts : object.tree ≡ object_tree (done ++ left)
+  pub same : Same (map_tree tree es) (object_tree done)
+  pub read : AllRead Refused (value_trees done)
+  pub none : All NullIsNone (values_of es)
+
+module _ {X : Type 0} {tree : X → Tree} {Refused : Tree → ConvertError → Type 0} {NullIsNone : X → Type 0}
+    {object : WellFormed} {it : List (List ℕ × WellFormed)} {es : List (String Global × X)} where
+  pub none_so_far : object.tree ≡ object_tree it → es ≡ [] → ReadSoFar tree Refused NullIsNone object it es
+  none_so_far parts empty = record {
+    done = [];
+    parts = parts;
+    same = subst (λ l. Same (map_tree tree l) (object_tree [])) (sym empty) (refl, tt);
+    read = λ e r. r;
+    none = subst (λ l. All NullIsNone (values_of l)) (sym empty) (All-nil NullIsNone);
+  }
+
+  module _ (so_far : ReadSoFar tree Refused NullIsNone object it es) where
+    module _ {k : List ℕ} {v : WellFormed} {left : List (List ℕ × WellFormed)} (steps : it ≡ (k, v) ∷ left) where
+      here : object.tree ≡ object_tree (so_far.done ++ (k, v) ∷ left)
+      here = so_far.parts ∙ ap (λ l. object_tree (so_far.done ++ l)) steps
+
+      pub new_key : Lacks k (keys_of so_far.done)
+      new_key =
+          let distinct = (subst IsWellFormed here object.well_formed).0 in
+          key_is_new so_far.done k v left _ refl (subst IsDistinct (member_keys-pairs (so_far.done ++ (k, v) ∷ left)) distinct)
+
+      -- one more member is read
+      pub one_read : {grown : List (String Global × X)} → Same (map_tree tree grown) (object_tree (so_far.done ++ (k, v) ∷ []))
+          → IsRead Refused v.tree → All NullIsNone (values_of grown) → ReadSoFar tree Refused NullIsNone object left grown
+      one_read same read none = record {
+        done = so_far.done ++ (k, v) ∷ [];
+        parts = here ∙ ap object_tree (sym (append_assoc so_far.done ((k, v) ∷ []) left));
+        same = same;
+        read = subst (AllRead Refused) (sym (map-append (λ p. tree_of p.1) so_far.done ((k, v) ∷ [])))
+            (read_pushed Refused (value_trees so_far.done) v.tree so_far.read read);
+        none = none;
+      }
+
+      -- or rejected, and then so is the object
+      pub one_refused : {e : ConvertError} → Refused v.tree e → MapRefused Refused object.tree e
+      one_refused {e} refused =
+          subst (λ t. MapRefused Refused t e) (sym here)
+          (subst (λ items. FirstRefused Refused items e)
+          (sym (values_are (so_far.done ++ (k, v) ∷ left) ∙ ap items_of (map-append (λ p. tree_of p.1) so_far.done ((k, v) ∷ left))))
+          (refused_behind Refused (value_trees so_far.done) v.tree (value_trees left) e so_far.read refused))
+
+    -- all members are read
+    pub all_read : it ≡ [] → Same (map_tree tree es) object.tree × IsRead (MapRefused Refused) object.tree
+    all_read none =
+        let done = sym (so_far.parts ∙ ap (λ l. object_tree (so_far.done ++ l)) none ∙ ap object_tree (append-nil so_far.done)) in (
+          subst (Same (map_tree tree es)) done so_far.same,
+          subst (IsRead (MapRefused Refused)) done
+              (λ e r. so_far.read e (subst (λ items. FirstRefused Refused items e) (values_are so_far.done) r)),
+        )

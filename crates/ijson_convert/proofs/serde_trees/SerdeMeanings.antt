@@ -1,5 +1,5 @@
 -- Values of `serde_json` that mean the same as trees, part by part.
-use Rattle.std.proofs.Common.{◌≡◌, ◌≢◌, ◌⊎◌, ℕ, List, [], ◌∷◌, ◌++◌, suc, refl, ap, sym, subst, ◌∙◌, inl, inr}
+use Rattle.std.proofs.Common.{◌≡◌, ◌≢◌, ℕ, List, [], ◌∷◌, ◌++◌, suc, refl, ap, sym, subst, ◌∙◌, inl, inr}
 use Rattle.std.specs.declared.cmp.Ordering.TheVariants.{Less, Equal, Greater}
 use Rattle.std.specs.Cmp.Lexicographic.{slice_cmp}
 use Rattle.std.specs.Ordering.{nat_cmp, match_ordering}
@@ -15,8 +15,9 @@ use Rattle.ijson_value.specs.Tree.{member, members_len, member_keys}
 use Rattle.ijson_value.specs.Values.{array_tree, object_tree}
 use Rattle.ijson_value.specs.WellFormed.{WellFormed, IsWellFormed, AreWellFormed, HaveWellFormed, item_trees, pair_trees}
 use Rattle.ijson_value.specs.laws.HoldsWellFormed.{member_keys-pairs}
-use Rattle.ijson_value.specs.laws.SameLaws.{same_symm, partner, member_distinct, lacks_it, covers}
+use Rattle.ijson_value.specs.laws.SameLaws.{same_symm, partner, member_distinct, lacks_it}
 use Rattle.ijson_convert.proofs.pairs.PairTrees.{has_more, has_middle, len_last}
+use Rattle.ijson_convert.proofs.reading.MembersRead.{widened}
 use Rattle.ijson_convert.specs.SerdeTree.{SerdeTree, SerdeItems, SerdeMembers, SerdeMeans, NoSerdeMeans}
 
 -- ---- lists
@@ -33,18 +34,12 @@ push_item (x ∷ vs) (y ∷ us) v u (item t ts) w h s m =
     let r = push_item vs us v u ts w.1 h.1 s.1 m in
     (item t r.0, (w.0, r.1), (h.0, r.2), (s.0, r.3))
 
--- one more element means the same, by the tree between
-more_means : (vs : List Value) (us : List WellFormed) (v : Value) (u : WellFormed) (t : Tree) → IsWellFormed t
-    → SerdeTree (serde.array (items_view vs)) t → Same t (array_tree us) → SerdeMeans (view v) u.tree
-    → SerdeMeans (serde.array (items_view (vs ++ v ∷ []))) (array_tree (us ++ u ∷ []))
-more_means vs us v u (array ts) w h s m = let r = push_item vs us v u ts w h s m in (array r.0, r.1, r.2, r.3)
-more_means vs us v u t w h s m = absurd h
-
 -- an array with one more element means the same
 pub array_means : (vs : List Value) (us : List WellFormed) (v : Value) (u : WellFormed)
     → SerdeMeans (serde.array (items_view vs)) (array_tree us) → SerdeMeans (view v) u.tree
     → SerdeMeans (serde.array (items_view (vs ++ v ∷ []))) (array_tree (us ++ u ∷ []))
-array_means vs us v u so_far m = more_means vs us v u so_far.0 so_far.1 so_far.2 so_far.3 m
+array_means vs us v u (array ts, w, h, s) m = let r = push_item vs us v u ts w h s m in (array r.0, r.1, r.2, r.3)
+array_means vs us v u (t, w, h, s) m = absurd h
 
 -- no elements mean a list in which one has no meaning
 items_unmeant : (before : List WellFormed) (u : WellFormed) (left : List WellFormed) → NoSerdeMeans u.tree
@@ -57,65 +52,58 @@ items_unmeant before u left never serde.no_items (item t ts) w h s = h
 items_unmeant [] u left never ds no_items w h s = s
 items_unmeant (x ∷ before) u left never ds no_items w h s = s
 
--- nothing means an array of that list
-array_unmeant_by : (before : List WellFormed) (u : WellFormed) (left : List WellFormed) → NoSerdeMeans u.tree
-    → (d : Data) (t : Tree) → IsWellFormed t → SerdeTree d t → Same t (array_tree (before ++ u ∷ left)) → ⊥
-array_unmeant_by before u left never (serde.array ds) (array ts) w h s = items_unmeant before u left never ds ts w h s
-array_unmeant_by before u left never d (array ts) w h s = h
-array_unmeant_by before u left never d t w h s = s
-
 -- and so the array has no meaning
 pub array_unmeant : (before : List WellFormed) (u : WellFormed) (left : List WellFormed) → NoSerdeMeans u.tree
     → NoSerdeMeans (array_tree (before ++ u ∷ left))
-array_unmeant before u left never d m = array_unmeant_by before u left never d m.0 m.1 m.2 m.3
+array_unmeant before u left never (serde.array ds) (array ts, w, h, s) = items_unmeant before u left never ds ts w h s
+array_unmeant before u left never d (array ts, w, h, s) = h
+array_unmeant before u left never d (t, w, h, s) = s
 
--- ---- one more member: qs is ps with t inserted at the new key k
-record Added (k : List ℕ) (t : Tree) (ps qs : Members) : Type 0 where
-  len : members_len qs ≡ suc (members_len ps)
-  has : (j : List ℕ) (u : Tree) → Has j u qs → ((j ≡ k) × (u ≡ t)) ⊎ Has j u ps
-  lacks : (j : List ℕ) → j ≢ k → Lacks j (member_keys ps) → Lacks j (member_keys qs)
-  distinct : Lacks k (member_keys ps) → IsDistinct (member_keys ps) → IsDistinct (member_keys qs)
-  well : IsWellFormed t → HaveWellFormed ps → HaveWellFormed qs
+-- ---- one more member: qs is ps with t inserted at the new key k, which has a partner in the new entries
+module _ (old new : Members) (grows : (j : List ℕ) (u : Tree) → Has j u old → Has j u new) (k : List ℕ) (d : Data) (t : Tree)
+    (partner : (u : Tree) × Has k u new × Same t u) where
+  record Added (ps qs : Members) : Type 0 where
+    len : members_len qs ≡ suc (members_len ps)
+    same : SameIn ps old → SameIn qs new
+    lacks : (j : List ℕ) → j ≢ k → Lacks j (member_keys ps) → Lacks j (member_keys qs)
+    distinct : Lacks k (member_keys ps) → IsDistinct (member_keys ps) → IsDistinct (member_keys qs)
+    well : IsWellFormed t → HaveWellFormed ps → HaveWellFormed qs
 
--- a member inserted first
-added_first : (k : List ℕ) (t : Tree) (ps : Members) → Added k t ps (member k t ps)
-added_first k t ps = record {
-  len = refl;
-  has = λ j u h. h;
-  lacks = λ j ne l. (ne, l);
-  distinct = λ l d. (l, d);
-  well = λ w v. (w, v);
-}
+  -- a member inserted first
+  added_first : (ps : Members) → Added ps (member k t ps)
+  added_first ps = record {
+    len = refl;
+    same = λ s. (partner, widened old new grows ps s);
+    lacks = λ j ne l. (ne, l);
+    distinct = λ l d. (l, d);
+    well = λ w v. (w, v);
+  }
 
--- and one inserted after another member
-added_later : (k : List ℕ) (t : Tree) (ps qs : Members) (i : List ℕ) (v : Tree) → Added k t ps qs
-    → Added k t (member i v ps) (member i v qs)
-added_later k t ps qs i v a = record {
-  len = ap suc a.len;
-  has = λ j u h. elim h [
-    | inl e ↦ inr (inl e)
-    | inr m ↦ elim (a.has j u m) [ inl e ↦ inl e | inr n ↦ inr (inr n) ]
-  ];
-  lacks = λ j ne l. (l.0, a.lacks j ne l.1);
-  distinct = λ l d. (a.lacks i (λ e. l.0 (sym e)) d.0, a.distinct l.1 d.1);
-  well = λ w h. (h.0, a.well w h.1);
-}
+  -- and one inserted after another member
+  added_later : (ps qs : Members) (i : List ℕ) (v : Tree) → Added ps qs → Added (member i v ps) (member i v qs)
+  added_later ps qs i v a = record {
+    len = ap suc a.len;
+    same = λ s. ((s.0.0, grows i s.0.0 s.0.1, s.0.2), a.same s.1);
+    lacks = λ j ne l. (l.0, a.lacks j ne l.1);
+    distinct = λ l d. (a.lacks i (λ e. l.0 (sym e)) d.0, a.distinct l.1 d.1);
+    well = λ w h. (h.0, a.well w h.1);
+  }
 
--- the map inserts it in the order of the keys
-added : (k : List ℕ) (d : Data) (t : Tree) (ms : serde.Members) (ps : Members) → SerdeMembers ms ps → SerdeTree d t
-    → Lacks k (member_keys ps) → (qs : Members) × SerdeMembers (serde.put k d ms) qs × Added k t ps qs
-added k d t serde.no_members no_members h s l = (member k t no_members, (refl, s, tt), added_first k t no_members)
-added k d t serde.no_members (member j u ps) h s l = absurd h
-added k d t (serde.member i e ms) no_members h s l = absurd h
-added k d t (serde.member i e ms) (member j u ps) h s l = elim (slice_cmp nat_cmp k i)
-    as (λ o. slice_cmp nat_cmp k i ≡ o → (qs : Members) × SerdeMembers (match_ordering o (serde.member k d (serde.member i e ms))
-    (serde.member i d ms) (serde.member i e (serde.put k d ms))) qs × Added k t (member j u ps) qs) [
-      | Less ↦ λ is. (member k t (member j u ps), (refl, s, h), added_first k t (member j u ps))
-      | Equal ↦ λ is. absurd (l.0 (exact_bytes k i is ∙ h.0))
-      | Greater ↦ λ is.
-          let r = added k d t ms ps h.2 s l.1 in
-          (member j u r.0, (h.0, h.1, r.1), added_later k t ps r.0 j u r.2)
-    ] refl
+  -- the map inserts it in the order of the keys
+  added : (ms : serde.Members) (ps : Members) → SerdeMembers ms ps → SerdeTree d t → Lacks k (member_keys ps)
+      → (qs : Members) × SerdeMembers (serde.put k d ms) qs × Added ps qs
+  added serde.no_members no_members h s l = (member k t no_members, (refl, s, tt), added_first no_members)
+  added serde.no_members (member j u ps) h s l = absurd h
+  added (serde.member i e ms) no_members h s l = absurd h
+  added (serde.member i e ms) (member j u ps) h s l = elim (slice_cmp nat_cmp k i)
+      as (λ o. slice_cmp nat_cmp k i ≡ o → (qs : Members) × SerdeMembers (match_ordering o (serde.member k d (serde.member i e ms))
+      (serde.member i d ms) (serde.member i e (serde.put k d ms))) qs × Added (member j u ps) qs) [
+        | Less ↦ λ is. (member k t (member j u ps), (refl, s, h), added_first (member j u ps))
+        | Equal ↦ λ is. absurd (l.0 (exact_bytes k i is ∙ h.0))
+        | Greater ↦ λ is.
+            let r = added ms ps h.2 s l.1 in
+            (member j u r.0, (h.0, h.1, r.1), added_later ps r.0 j u r.2)
+      ] refl
 
 -- ---- objects
 -- a key missing from an object is missing from members that are all in it
@@ -124,39 +112,17 @@ lacks_inside k no_members qs s l = tt
 lacks_inside k (member j t ps) qs s l =
     (λ e. lacks_it k s.0.0 qs l (subst (λ i. Has i s.0.0 qs) (sym e) s.0.1), lacks_inside k ps qs s.1 l)
 
-module _ (es : serde.Members) (done : List (List ℕ × WellFormed)) (d : Data) (p : List ℕ × WellFormed)
-    (lacks : Lacks p.0 (keys_of done)) (m : SerdeMeans d p.1.tree) where
-  members_means : (ps : Members) → IsWellFormed (object ps) → SerdeMembers es ps → Same (object ps) (object_tree done)
-      → SerdeMeans (serde.object (serde.put p.0 d es)) (object_tree (done ++ p ∷ []))
-  members_means ps w h s =
-      let without = lacks_inside p.0 ps (pair_trees done) s.1 (subst (Lacks p.0) (sym (member_keys-pairs done)) lacks) in
-      let a = added p.0 d m.0 es ps h m.2 without in
-      let rs = pair_trees (done ++ p ∷ []) in
-      let found : (k : List ℕ) (t : Tree) → Has k t a.0 → (u : Tree) × Has k u rs × Same t u = λ k t q.
-      elim (a.2.has k t q) [
-        | inl e ↦ (
-          p.1.tree,
-          subst (λ j. Has j p.1.tree rs) (sym e.0) (has_middle done p []),
-          subst (λ x. Same x p.1.tree) (sym e.1) m.3,
-        )
-        | inr n ↦ (let r = partner ps (pair_trees done) k t n s.1 in (r.0, has_more done (p ∷ []) k r.0 r.1, r.2))
-      ] in (
-        object a.0,
-        (a.2.distinct without w.0, a.2.well m.1 w.1),
-        a.1,
-        (a.2.len ∙ ap suc s.0 ∙ sym (len_last done p), covers a.0 rs found),
-      )
-
-  -- one more entry means the same, by the tree between
-  means_by : (t : Tree) → IsWellFormed t → SerdeTree (serde.object es) t → Same t (object_tree done)
-      → SerdeMeans (serde.object (serde.put p.0 d es)) (object_tree (done ++ p ∷ []))
-  means_by (object ps) w h s = members_means ps w h s
-  means_by t w h s = absurd h
-
-  -- an object with one more entry means the same
-  pub object_means : SerdeMeans (serde.object es) (object_tree done)
-      → SerdeMeans (serde.object (serde.put p.0 d es)) (object_tree (done ++ p ∷ []))
-  object_means so_far = means_by so_far.0 so_far.1 so_far.2 so_far.3
+-- an object with one more entry means the same
+pub object_means : (es : serde.Members) (done : List (List ℕ × WellFormed)) (d : Data) (p : List ℕ × WellFormed)
+    → Lacks p.0 (keys_of done) → SerdeMeans d p.1.tree → SerdeMeans (serde.object es) (object_tree done)
+    → SerdeMeans (serde.object (serde.put p.0 d es)) (object_tree (done ++ p ∷ []))
+object_means es done d p lacks m (object ps, w, h, s) =
+    let old = pair_trees done in
+    let without = lacks_inside p.0 ps old s.1 (subst (Lacks p.0) (sym (member_keys-pairs done)) lacks) in
+    let a = added old (pair_trees (done ++ p ∷ [])) (has_more done (p ∷ [])) p.0 d m.0 (p.1.tree, has_middle done p [], m.3) es ps h m.2
+    without in
+    (object a.0, (a.2.distinct without w.0, a.2.well m.1 w.1), a.1, (a.2.len ∙ ap suc s.0 ∙ sym (len_last done p), a.2.same s.1))
+object_means es done d p lacks m (t, w, h, s) = absurd h
 
 -- the value of a member
 child : (ms : serde.Members) (ps : Members) (k : List ℕ) (t : Tree) → SerdeMembers ms ps → Has k t ps
@@ -169,23 +135,14 @@ child (serde.member i d ms) (member j u ps) k t h q = elim q [
   | inr n ↦ child ms ps k t h.2 n
 ]
 
-module _ (qs : Members) (well : IsWellFormed (object qs)) (k : List ℕ) (u : Tree) (is : IsWellFormed u) (has : Has k u qs)
-    (never : NoSerdeMeans u) where
-  members_unmeant : (ms : serde.Members) (ps : Members) → IsWellFormed (object ps) → SerdeMembers ms ps
-      → Same (object ps) (object qs) → ⊥
-  members_unmeant ms ps w h s =
-      let back = same_symm (object ps) (object qs) w well s in
-      let p = partner qs ps k u has back.1 in
-      let there = member_distinct ps w.1 k p.0 p.1 in
-      let d = child ms ps k p.0 h p.1 in
-      never d.0 (p.0, there, d.1, same_symm u p.0 is there p.2)
-
-  -- nothing means an object with a member that has no meaning
-  unmeant_by : (d : Data) (t : Tree) → IsWellFormed t → SerdeTree d t → Same t (object qs) → ⊥
-  unmeant_by (serde.object ms) (object ps) w h s = members_unmeant ms ps w h s
-  unmeant_by d (object ps) w h s = h
-  unmeant_by d t w h s = s
-
-  -- and so it has no meaning
-  pub object_unmeant : NoSerdeMeans (object qs)
-  object_unmeant d m = unmeant_by d m.0 m.1 m.2 m.3
+-- an object with a member that has no meaning has none
+pub object_unmeant : (qs : Members) → IsWellFormed (object qs) → (k : List ℕ) (u : Tree) → IsWellFormed u → Has k u qs → NoSerdeMeans u
+    → NoSerdeMeans (object qs)
+object_unmeant qs well k u is has never (serde.object ms) (object ps, w, h, s) =
+    let back = same_symm (object ps) (object qs) w well s in
+    let p = partner qs ps k u has back.1 in
+    let there = member_distinct ps w.1 k p.0 p.1 in
+    let d = child ms ps k p.0 h p.1 in
+    never d.0 (p.0, there, d.1, same_symm u p.0 is there p.2)
+object_unmeant qs well k u is has never d (object ps, w, h, s) = h
+object_unmeant qs well k u is has never d (t, w, h, s) = s

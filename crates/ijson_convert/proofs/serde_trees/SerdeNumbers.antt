@@ -12,10 +12,9 @@ use Rattle.ijson_number.specs.Integers.{HasValue, IsInteger}
 use Rattle.ijson_number.specs.Num.{IsNum, Num}
 use Rattle.ijson_number.specs.Order.{number_cmp}
 use Rattle.ijson_number.proofs.storing.IntegerWords.{signed_small, signed_fits, unsigned_fits}
-use Rattle.ijson_value.specs.Same.{Same}
-use Rattle.ijson_value.specs.Tree.{Tree, null, number}
+use Rattle.ijson_value.specs.Tree.{null, number}
 use Rattle.ijson_convert.specs.IntegerTree.{integer_number}
-use Rattle.ijson_convert.specs.SerdeTree.{SerdeNumber, SerdeTree, HasNoTree, SerdeMeans, NoSerdeMeans}
+use Rattle.ijson_convert.specs.SerdeTree.{SerdeNumber, HasNoTree, SerdeMeans, NoSerdeMeans}
 use Rattle.ijson_number.specs.laws.IntegerValues.{integer_value}
 use Rattle.ijson_convert.specs.laws.Integers.{integer_num, signed_is, unsigned_is}
 use Rattle.ijson_convert.specs.laws.Whole.{has_too}
@@ -29,42 +28,36 @@ unsigned_num n h = integer_num (pos n) h (λ e. unsigned_fits n h)
 signed_num : (z : ℤ) → FitsSigned w64 z → IsNum (integer_number z)
 signed_num z h = integer_num z (signed_small z h) (λ e. let t = signed_fits z h in cc)
 
--- an unsigned number of `serde_json` means a number of its value
+-- a number of `serde_json` means a number of its value, if it has a tree
+integer_means : (m : serde.Num) (z : ℤ) (u : Decimal) → SerdeNumber m (integer_number z) → IsNum (integer_number z) → HasValue u z
+    → SerdeMeans (serde.number m) (number u)
+integer_means m z u tree is h = (number (integer_number z), is, tree, has_same (integer_number z) u z (integer_value z) h)
+
+-- an unsigned one does
 pub means_unsigned : (m : serde.Num) (n : ℕ) (u : Decimal) → m ≡ serde.unsigned n → n < 2 ^ 64 → HasValue u (pos n)
     → SerdeMeans (serde.number m) (number u)
-means_unsigned m n u is small h = subst (λ k. SerdeMeans (serde.number k) (number u)) (sym is) (
-  number (integer_number (pos n)),
-  unsigned_num n small,
-  (small, refl),
-  has_same (integer_number (pos n)) u (pos n) (integer_value (pos n)) h,
-)
+means_unsigned m n u is small =
+    integer_means m (pos n) u (subst (λ k. SerdeNumber k (integer_number (pos n))) (sym is) (small, refl)) (unsigned_num n small)
 
 -- and so does a signed one
 pub means_signed : (m : serde.Num) (z : ℤ) (u : Decimal) → m ≡ of_integer z → FitsSigned w64 z → HasValue u z
     → SerdeMeans (serde.number m) (number u)
-means_signed m (pos n) u is fits h = means_unsigned m n u is (omega arith) h
-means_signed m (negsuc n) u is fits h = subst (λ k. SerdeMeans (serde.number k) (number u)) (sym is) (
-  number (integer_number (negsuc n)),
-  signed_num (negsuc n) fits,
-  (fits, refl),
-  has_same (integer_number (negsuc n)) u (negsuc n) (integer_value (negsuc n)) h,
-)
+means_signed m (pos n) u is fits = means_unsigned m n u is (omega arith)
+means_signed m (negsuc n) u is fits =
+    integer_means m (negsuc n) u (subst (λ k. SerdeNumber k (integer_number (negsuc n))) (sym is) (fits, refl)) (signed_num (negsuc n) fits)
 
 module _ (u : Decimal) (no_unsigned : (n : ℕ) → n < 2 ^ 64 → HasValue u (pos n) → ⊥)
     (no_signed : (z : ℤ) → FitsSigned w64 z → HasValue u z → ⊥) where
-  unmeant : (d : Data) (t : Tree) → SerdeTree d t → Same t (number u) → ⊥
-  unmeant (serde.number (serde.unsigned n)) (number k) h s =
-      no_unsigned n h.0 (has_too (integer_number (pos n)) u (pos n) (integer_value (pos n))
-      (subst (λ l. number_cmp l u ≡ Equal) h.1 s))
-  unmeant (serde.number (serde.negative z)) (number k) h s =
-      no_signed z h.0 (has_too (integer_number z) u z (integer_value z)
-      (subst (λ l. number_cmp l u ≡ Equal) h.1 s))
-  unmeant d (number k) h s = h
-  unmeant d t h s = s
-
   -- a number that is neither a `u64` nor an `i64` has no meaning
   pub number_unmeant : NoSerdeMeans (number u)
-  number_unmeant d m = unmeant d m.0 m.2 m.3
+  number_unmeant (serde.number (serde.unsigned n)) (number k, w, h, s) =
+      no_unsigned n h.0 (has_too (integer_number (pos n)) u (pos n) (integer_value (pos n))
+      (subst (λ l. number_cmp l u ≡ Equal) h.1 s))
+  number_unmeant (serde.number (serde.negative z)) (number k, w, h, s) =
+      no_signed z h.0 (has_too (integer_number z) u z (integer_value z)
+      (subst (λ l. number_cmp l u ≡ Equal) h.1 s))
+  number_unmeant d (number k, w, h, s) = h
+  number_unmeant d (t, w, h, s) = s
 
 -- a number of `serde_json` that is a `u64` has a tree
 pub unsigned_here : (m : serde.Num) (k : ℕ) (n : Num) → as_u64 m ≡ Some k → k < 2 ^ 64 → IsInteger n.decimal (pos k)
@@ -85,12 +78,11 @@ signed_here (serde.negative y) z n none e fits i =
     (subst (FitsSigned w64) (sym same) fits, is ∙ ap integer_number (sym same))
 signed_here (serde.float x) z n none e fits i = absurd (cc)
 
-float_treeless : (x : _) (t : Tree) → SerdeTree (serde.number (serde.float x)) t → ⊥
-float_treeless x null h = h
-float_treeless x t h = h
-
 -- one that is neither has none
 pub none_here : (m : serde.Num) → as_u64 m ≡ None → as_i64 m ≡ None → HasNoTree (serde.number m)
-none_here (serde.unsigned k) a b = absurd (cc)
-none_here (serde.negative z) a b = absurd (cc)
-none_here (serde.float x) a b = float_treeless x
+none_here (serde.unsigned k) a b t h = absurd (cc)
+none_here (serde.negative z) a b t h = absurd (cc)
+none_here (serde.float x) a b null h = h
+none_here (serde.float x) a b t h = h
+
+pub ruleset numbers_here = (unsigned_here, signed_here, none_here)
