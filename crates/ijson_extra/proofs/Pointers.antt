@@ -7,7 +7,7 @@ use Rattle.std.proofs.lemmas.Bool.{ne_eqb}
 use Rattle.std.proofs.lemmas.List.{drop_all, drop_more}
 use Rattle.std.proofs.lemmas.Bool.Decides.{nat_tests}
 use Rattle.ijson_value.specs.Tree.{Tree}
-use Rattle.ijson_extra.specs.Pointer.{in_first, written_tokens, meant, escape_meant, all_meant, child_at, followed}
+use Rattle.ijson_extra.specs.Pointer.{in_first, written_tokens, meant, escape_meant, all_meant, followed}
 use Rattle.ijson_extra.specs.private.Walked.{first_of}
 
 abbrev pub LacksByte : ℕ → List ℕ → Type 0

@@ -1,6 +1,6 @@
 -- The value that a token refers to in a value, from its list of elements or entries.
 use Rattle.std.proofs.Common.{◌≡◌, ◌⊎◌, inl, inr, ℕ, Bool, true, false, List, [], ◌∷◌, Option, Some, None, option_map}
-use Rattle.std.proofs.Common.{option_copied, eqb, refl, sym, ap, ◌∙◌}
+use Rattle.std.proofs.Common.{option_copied, eqb, refl, ap, ◌∙◌}
 use Rattle.std.specs.Prelude.{◌≢◌, IfSome, IfNone, MatchOption, option_and_then, slice_get}
 use Rattle.std.proofs.lemmas.Bool.{eqb-true}
 use denote.Ref.{Bor}
@@ -10,7 +10,6 @@ use Rattle.ijson_value.specs.Values.{array_tree, array_value, object_value}
 use Rattle.ijson_value.specs.laws.Steps.{item_at, value_at}
 use Rattle.ijson_value.proofs.Found.{found_tree}
 use Rattle.ijson_value.specs.WellFormed.{WellFormed, tree_of}
-use Rattle.ijson_value.specs.Tree.{Tree}
 use Rattle.ijson_extra.specs.Pointer.{meant, all_meant, written_tokens, position_named, tokens_of, child_at}
 use Rattle.ijson_extra.proofs.tokens.Positions.{same_position}
 

@@ -1,8 +1,8 @@
 -- The value that a pointer refers to, and the tree with another one there, by the first token and the others.
-use Rattle.std.proofs.Common.{◌≡◌, ℕ, true, false, List, [], ◌∷◌, Option, Some, None, refl, sym, ap, ◌∙◌, is_some, eqb}
-use Rattle.std.specs.Prelude.{get_or, option_map, option_and_then}
+use Rattle.std.proofs.Common.{◌≡◌, ℕ, true, false, List, ◌∷◌, Option, Some, None, refl, sym, ap, ◌∙◌, is_some}
+use Rattle.std.specs.Prelude.{option_map, option_and_then}
 use Rattle.ijson_value.specs.Tree.{Tree}
-use Rattle.ijson_extra.specs.Pointer.{in_first, meant, all_meant, written_tokens, child_at, child_with, followed, followed_with, tokens_with}
+use Rattle.ijson_extra.specs.Pointer.{meant, all_meant, written_tokens, child_at, child_with, followed, followed_with, tokens_with}
 use Rattle.ijson_extra.specs.Pointer.{resolved_with}
 use Rattle.ijson_extra.specs.private.Walked.{written_at, meant_with, written_with, first_of, found_at}
 use Rattle.ijson_extra.proofs.Pointers.{first_is}

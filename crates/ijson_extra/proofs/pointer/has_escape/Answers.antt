@@ -1,4 +1,4 @@
-use Rattle.std.proofs.Common.{◌≡◌, ◌∙◌, Contains, sym, subst, arith}
+use Rattle.std.proofs.Common.{◌∙◌, Contains, sym, subst, arith}
 use Rattle.std.proofs.lemmas.List.Elements.{Contains-get_or}
 use Rattle.std.proofs.lemmas.Str.Pattern.{contains_char}
 use mathlib.Core.Bool.{true≢false}

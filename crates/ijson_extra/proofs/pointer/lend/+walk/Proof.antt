@@ -1,6 +1,6 @@
 -- A recursive walk lends the value that its tokens lead to. Assumes `Logic`.
 use Rattle.ijson_value.proofs.lends.Steps.{◌≡◌, ◌∙◌, subst, says, fpick, ℕ, List, [], ◌∷◌, refl, sym, ap, lit<, MutBor, id⊢}
-use Rattle.ijson_value.proofs.lends.Steps.{ftrue, flft, fres, named, Val, vptr, fact, tables, ‵, raw, ◌⊛◌, some, at_ret, ◌$◌}
+use Rattle.ijson_value.proofs.lends.Steps.{ftrue, flft, fres, named, Val, vptr, fact, tables, ‵, raw, ◌⊛◌, at_ret, ◌$◌}
 use Rattle.ijson_value.proofs.lends.Steps.{◌∵◌, !, qed, done, move, keep, use0, use1, use2, use3, split, join, rewrite, fjoin}
 use Rattle.ijson_value.proofs.lends.Steps.{suffices, frame, enter, of_opd, lit, addr, fld, stop, no_more, and_then, first}
 use Rattle.ijson_value.proofs.lends.Steps.{exec, returns, returns_within, alloc_all, pass_all, free_all, look_at, get}
