@@ -1,4 +1,4 @@
-//! Tests of canonical text and pointers beyond their clauses, and of failed allocations of numbers, strings and this crate.
+//! Tests of canonical text and pointers beyond their clauses, and after failed allocations.
 
 /// The result of a call, which is repeated if an allocation fails.
 ///

@@ -28,7 +28,6 @@ mod cache;
 mod devices;
 mod equality;
 mod faults;
-mod hashes;
 mod recorder;
 mod refusals;
 mod requests;

@@ -3,8 +3,7 @@
 //! Each module uses only those before it: `lanes`, `significand`, `repr::stored`, `repr`, `fast_reader`, `general_reader`, `encode`,
 //! `write_display`, `write_fast`, `comparison`, `number`, `integers`, `tests::words`, `tests::numbers`, `tests::numbers::forms`.
 //!
-//! The tests are in `src/tests`, those of the words that numbers feed a hasher in `ijson_json`, and those of failed allocations in
-//! `ijson_extra`.
+//! The tests are in `src/tests`.
 #![tactic(auto)]
 
 mod comparison;

@@ -2,9 +2,9 @@
 use Rattle.std.proofs.Common.{◌≡◌, inl, inr, ℕ, ◌<◌, ◌≤◌, ◌^◌, Result, Ok, Err, not, Bool, true, false, List, [], ◌∷◌, eqb, length, refl}
 use Rattle.std.proofs.Common.{sym, ap, ◌∙◌, arith, Option, Some, None, option_map}
 use mathlib.Core.Bool.{true≢false}
-use Rattle.std.specs.Prelude.{◌==◌, option_and_then, slice_get}
+use Rattle.std.specs.Prelude.{◌==◌}
 use Rattle.std.proofs.lemmas.Bool.{and_parts, cases_lt}
-use Rattle.std.proofs.lemmas.Option.{same_Some, slice_get_past}
+use Rattle.std.proofs.lemmas.Option.{same_Some}
 use Rattle.std.proofs.lemmas.Str.Parse.{IsNumeralModel, numerals_by_value, tells_all_ascii_digits, not_in_digits, parse_digits}
 use Rattle.std.specs.Char.{is_ascii_digit}
 use Rattle.std.specs.Str.{all_ascii_digits}
@@ -89,9 +89,3 @@ pub position_read : {E : Type 0} (token : List ℕ) (count : ℕ) (r : Result �
     → MatchResult r (λ n. position_named token ≡ Some n) (λ e. (i : ℕ) → position_named token ≡ Some i → count ≤ i)
 position_read token count r h p l = read_by token count r (parse_digits own 64 token r h (position_digits token p)) p
     (position_some token p) l
-
--- there is no element at an index past the end
-pub none_there : {X : Type 0} (xs : List X) (position : Option ℕ) → ((i : ℕ) → position ≡ Some i → length xs ≤ i)
-    → option_and_then (slice_get xs) position ≡ None
-none_there xs None h = refl
-none_there xs (Some i) h = slice_get_past xs i (h i refl)
