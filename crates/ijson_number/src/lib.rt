@@ -1,10 +1,10 @@
 //! Exact decimals, as JSON writes numbers.
 //!
 //! Each module uses only those before it: `lanes`, `significand`, `repr::stored`, `repr`, `fast_reader`, `general_reader`, `encode`,
-//! `write_display`, `write_fast`, `comparison`, `number`, `integers`, `tests::words`, `tests::numbers`, `tests::numbers::forms`.
+//! `write_display`, `write_fast`, `comparison`, `number`, `integers`, `tests::words`, `tests::numbers`, `tests::numbers::forms`,
+//! `tests::recorder`, `tests::hashes`, `tests::refusals`, `tests::refusals::no_memory`.
 //!
-//! The tests are in `src/tests`, those of the words that numbers feed a hasher in `ijson_json`, and those of failed allocations in
-//! `ijson_extra`.
+//! The tests are in `src/tests`.
 #![tactic(auto)]
 
 mod comparison;
