@@ -87,17 +87,6 @@ plain_tail t a x p rest count c f r = record {
   ends = f.digits_end;
 }
 
--- unless the exponent is missing, the text begins with its letter
-tail_begins_at : (text exponent_text rest : List ℕ) → text ≡ exponent_text ++ rest → IsFewExponent exponent_text → EndsToken rest
-    → EndsToken text ⊎ ((0 < length text) × (get_or text 0 0 ≡ 101 ⊎ get_or text 0 0 ≡ 69))
-tail_begins_at text [] rest e h ends = inl (rw e ends)
-tail_begins_at [] (b ∷ bs) rest e h ends = absurd (cc)
-tail_begins_at (c ∷ text) (b ∷ bs) rest e h ends = let same : c ≡ b = cc in inr (omega arith, rw same h.0)
-
-pub tail_begins : (text rest : List ℕ) → IsExponentTail text rest
-    → EndsToken text ⊎ ((0 < length text) × (get_or text 0 0 ≡ 101 ⊎ get_or text 0 0 ≡ 69))
-tail_begins text rest t = tail_begins_at text t.exponent_text rest t.text_is t.exponent t.ends
-
 -- a letter continues the token
 pub letter_continues : (text : List ℕ) → 0 < length text → get_or text 0 0 ≡ 101 ⊎ get_or text 0 0 ≡ 69 → EndsToken text → ⊥
 letter_continues [] some b h = omega (arith, some)

@@ -22,11 +22,6 @@ pub AllDigits_right : (a b : List ℕ) → AllDigits (a ++ b) → AllDigits b
 AllDigits_right [] b p = p
 AllDigits_right (x ∷ a) b p = AllDigits_right a b p.1
 
--- a text that begins with no digit and consists of digits is empty
-pub no_more : (b : List ℕ) → BeginsWithNoDigit b → AllDigits b → b ≡ []
-no_more [] n p = refl
-no_more (x ∷ b) n p = absurd (n p.0)
-
 pub IsDigits_all : (a : List ℕ) → IsDigits a → AllDigits a
 IsDigits_all [] h = absurd h
 IsDigits_all (x ∷ a) h = h

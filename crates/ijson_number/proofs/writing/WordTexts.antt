@@ -7,7 +7,7 @@ use Rattle.ijson_number.proofs.Common.{minus_text, num_text, stripped_number, st
 use Rattle.ijson_number.proofs.Common.{integer_text, pointed_text, ten_pos, zero_or_not, zero, suc, ◌⊎◌, neg_ℤ, ◌≤ℤ◌, ◌<ℤ◌, ◌*ℤ◌, ◌||◌, ◌&&◌}
 use Rattle.ijson_number.proofs.Common.{and_parts, decimal_step_wide, length_push, FormOf, packed, digits_form, fits_packed, smallest_packed, form_of}
 use Rattle.ijson_number.proofs.Common.{take, drop, append_assoc, signed_decimal, length-drop, decimal_of, subst, All, map-append, All-take, All-drop}
-use Rattle.ijson_number.proofs.Common.{digits_within, stripped_digits, canonical_number, abs_signed}
+use Rattle.ijson_number.proofs.Common.{stripped_digits, canonical_number, abs_signed}
 use Rattle.ijson_number.specs.Stripped.{tens_out}
 use Rattle.ijson_number.specs.private.WordText.{last_digits}
 use Rattle.ijson_number.proofs.storing.FormNumbers.{IsTensOut}
@@ -331,18 +331,11 @@ scientific_shown n p z is long place low high written power =
     ∙ ap (λ x. minus_text n.negative ++ x) (append_assoc first (46 ∷ rest) exponent ∙ shape)
     ∙ stored_text n.negative ds n.exponent n.point n.stripped.stripped (omega arith)
 
--- the digits do not depend on the sign, the exponent and the fraction point
-pub same_digits : (m e f : ℤ) (point other : Bool)
-    → stripped_digits (stripped_number m e point) ≡ stripped_digits (stripped_number (pos (nat_abs m)) f other)
-same_digits m e f point other =
-    let s = (tens_out 20 (nat_abs m)).0 in
-    ap (λ n. digits_within n n) (abs_signed (int_lt m (pos 0)) s ∙ sym (abs_signed (int_lt (pos (nat_abs m)) (pos 0)) s))
-
--- zero has none
+-- zero has no digits
 pub none_shown : (e : ℤ) (point : Bool) → digits_text (stripped_digits (stripped_number (pos 0) e point)) ≡ []
 none_shown e point = ap (λ n. digits_text (stripped_digits n)) (zero_is false e point)
 
--- those of another number are the text of its magnitude
+-- the digits of another number are the text of its magnitude
 pub digits_shown : (s : Significand) → 0 < s.magnitude → s.magnitude < 2 ^ 64
     → decimal s.magnitude ≡ digits_text (stripped_digits (canonical_number s))
 digits_shown s some word =
