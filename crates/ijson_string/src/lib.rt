@@ -1,7 +1,6 @@
 //! Immutable strings: up to 7 bytes are inline, and longer strings are shared through a cache.
 //!
-//! The tests are in `src/tests`, those of failed allocations in `ijson_extra`, those of caches of readers and the words that strings feed
-//! a hasher in `ijson_json`, and those of seeds in `ijson_compact`.
+//! The tests are in `src/tests`, those of caches of readers in `ijson_json`, and those of seeds in `ijson_compact`.
 #![tactic(auto)]
 
 mod block;
