@@ -28,7 +28,6 @@ mod cache;
 mod devices;
 mod equality;
 mod faults;
-mod recorder;
 mod refusals;
 mod requests;
 mod texts;

@@ -2,7 +2,7 @@
 //!
 //! Each module uses only those before it: `lanes`, `significand`, `repr::stored`, `repr`, `fast_reader`, `general_reader`, `encode`,
 //! `write_display`, `write_fast`, `comparison`, `number`, `integers`, `tests::words`, `tests::numbers`, `tests::numbers::forms`,
-//! `tests::recorder`, `tests::hashes`, `tests::refusals`, `tests::refusals::no_memory`.
+//! `tests::hashes`, `tests::refusals`, `tests::refusals::no_memory`.
 //!
 //! The tests are in `src/tests`.
 #![tactic(auto)]

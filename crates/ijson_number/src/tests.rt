@@ -23,6 +23,5 @@ macro_rules! granted {
 
 mod hashes;
 mod numbers;
-mod recorder;
 mod refusals;
 mod words;

@@ -1,9 +1,22 @@
-//! Properties of strings and their cache that no clause states: any size works, the number of allocations, and the printed output.
+//! Properties of strings and their cache that no clause states: any size works, the number of allocations, the words that strings
+//! feed a hasher, the printed output, and the state after a failed allocation.
 
+/// The result of a call, which is repeated if an allocation fails.
+macro_rules! granted {
+    ($rt:expr; $call:expr) => {
+        match $call {
+            Ok(answer) => answer,
+            Err(AllocError) => $call.expect($rt, "an answer"),
+        }
+    };
+}
+
+mod hashes;
 mod lengths;
 mod many;
 mod memory;
 mod order;
+mod refusals;
 
 use crate::{IString, StringCache};
 use std::alloc::Global;

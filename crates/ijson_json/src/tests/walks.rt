@@ -2,16 +2,58 @@
 //! contracts alone.
 ghost use Rattle.std.specs.Prelude.{◌≡◌, true, IfOk};
 
-use super::recorder::feeds;
 use super::{is_written, parsed};
 use ijson_value::array::IArray;
 use ijson_value::object::IObject;
 use ijson_value::value::{DestructuredRef, IValue};
 use std::alloc::{AllocError, Global};
+use std::cell::Cell;
 use std::cmp::Ordering;
 use std::collections::HashMap;
 use std::hash::{BuildHasherDefault, DefaultHasher, FoldHasher, Hash, Hasher};
 use std::process::Abort;
+
+/// Compares the words of `write_u64` with the wanted ones.
+///
+/// The content of a cell is no part of a value, so contracts do not see it change.
+#[derive(Drop)]
+struct Comparing<'a> {
+    wanted: &'a [u64],
+    /// The number of words so far, or `usize::MAX` if one differs or anything else was fed.
+    count: &'a Cell<usize>,
+}
+
+impl Hasher for Comparing<'_> {
+    ghost write = { λ s _. s };
+
+    ghost finish = { λ _. 0 };
+
+    fn finish(&self) -> u64 {
+        0
+    }
+
+    fn write(&mut self, _bytes: &[u8]) {
+        self.count.set(usize::MAX);
+    }
+
+    fn write_u64(&mut self, word: u64) {
+        let count = self.count.get();
+        let is_wanted = self.wanted.get(count) == Some(&word);
+        self.count
+            .set(if is_wanted { count + 1 } else { usize::MAX });
+    }
+}
+
+/// Asserts that `value` feeds these words, each by `write_u64`, and nothing else.
+fn feeds<T: Hash>(rt: &impl Abort, value: &T, wanted: &[u64]) {
+    let count = Cell::new(0);
+    let mut hasher = Comparing {
+        wanted,
+        count: &count,
+    };
+    value.hash(&mut hasher);
+    assert!(rt; count.get() == wanted.len());
+}
 
 /// Texts, and the words that the value of each feeds a hasher.
 static WORDS: [(&str, &[u64]); 16] = [
@@ -34,11 +76,11 @@ static WORDS: [(&str, &[u64]); 16] = [
 ];
 
 /// Asserts that a value feeds these words, and that an array or object in it feeds the same.
-fn feeds_whole(rt: &impl Abort, alloc: Global, value: &IValue, words: &[u64]) {
-    feeds(rt, alloc, value, words);
+fn feeds_whole(rt: &impl Abort, value: &IValue, words: &[u64]) {
+    feeds(rt, value, words);
     match value.destructure_ref() {
-        DestructuredRef::Array(array) => feeds(rt, alloc, array, words),
-        DestructuredRef::Object(object) => feeds(rt, alloc, object, words),
+        DestructuredRef::Array(array) => feeds(rt, array, words),
+        DestructuredRef::Object(object) => feeds(rt, object, words),
         _ => {}
     }
 }
@@ -47,7 +89,7 @@ fn feeds_whole(rt: &impl Abort, alloc: Global, value: &IValue, words: &[u64]) {
 fn values_feed_their_words(rt: HostRuntime) {
     for &(text, words) in &WORDS {
         let value = parsed(&rt, rt.alloc(), text);
-        feeds_whole(&rt, rt.alloc(), &value, words);
+        feeds_whole(&rt, &value, words);
         drop(value);
     }
 }

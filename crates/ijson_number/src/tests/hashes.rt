@@ -1,6 +1,50 @@
 //! The words that numbers feed a hasher.
-use super::recorder::feeds;
 use crate::repr::INumber;
+use std::cell::Cell;
+use std::hash::{Hash, Hasher};
+use std::process::Abort;
+
+/// Compares the words of `write_u64` with the wanted ones.
+///
+/// The content of a cell is no part of a value, so contracts do not see it change.
+#[derive(Drop)]
+struct Comparing<'a> {
+    wanted: &'a [u64],
+    /// The number of words so far, or `usize::MAX` if one differs or anything else was fed.
+    count: &'a Cell<usize>,
+}
+
+impl Hasher for Comparing<'_> {
+    ghost write = { λ s _. s };
+
+    ghost finish = { λ _. 0 };
+
+    fn finish(&self) -> u64 {
+        0
+    }
+
+    fn write(&mut self, _bytes: &[u8]) {
+        self.count.set(usize::MAX);
+    }
+
+    fn write_u64(&mut self, word: u64) {
+        let count = self.count.get();
+        let is_wanted = self.wanted.get(count) == Some(&word);
+        self.count
+            .set(if is_wanted { count + 1 } else { usize::MAX });
+    }
+}
+
+/// Asserts that `value` feeds these words, each by `write_u64`, and nothing else.
+fn feeds<T: Hash>(rt: &impl Abort, value: &T, wanted: &[u64]) {
+    let count = Cell::new(0);
+    let mut hasher = Comparing {
+        wanted,
+        count: &count,
+    };
+    value.hash(&mut hasher);
+    assert!(rt; count.get() == wanted.len());
+}
 
 const WORDS_OF_I64: [u64; 21] = [
     2, 1, 2147483648, 17, 3, 6, 0, 2, 8, 7, 9, 7, 0, 1, 8, 9, 6, 3, 9, 6, 8,
