@@ -3,6 +3,8 @@
 //! The entries of a store are those of the numbers below their count: each has a key of its own, the number as its value, and the number as
 //! its index.
 
+mod no_memory;
+
 use super::{AlwaysZero, numbered};
 use crate::{
     Command, FixedHash, FixedTable, KeyHash, LinearPairs, PairStore, RefusedPair, Reply,
