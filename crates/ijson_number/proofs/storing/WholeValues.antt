@@ -1,14 +1,14 @@
 -- Numbers that are whole, and their digits.
 use Rattle.ijson_number.proofs.Common.{◌≡◌, ◌≢◌, ◌⊎◌, ℕ, suc, ◌+◌, ◌-◌, ◌*◌, ◌/◌, ◌%◌, ◌^◌, ◌<◌, ◌≤◌, Bool, false, List, [], ◌∷◌, ◌++◌, length}
 use Rattle.ijson_number.proofs.Common.{get_or, take, Option, Some, None, refl, ap, sym, ◌∙◌, inl, inr, arith, pow-add, ℤ, pos, negsuc, nat_abs}
-use Rattle.ijson_number.proofs.Common.{IfNone, ◌+ℤ◌, ◌-ℤ◌, ◌*ℤ◌, ◌≤ℤ◌, ◌<ℤ◌, digits_of, number_from_digits, alike_right, int_cmp, is_eq, Ordering, Equal}
+use Rattle.ijson_number.proofs.Common.{IfNone, ◌+ℤ◌, ◌-ℤ◌, ◌*ℤ◌, ◌≤ℤ◌, ◌<ℤ◌, digits_of, number_from_digits, alike_right, int_cmp}
 use Rattle.ijson_number.proofs.Common.{pow-succ', mul-mod_left, mul-le-mul_right, ints, digits_of_step, all_below_base_digits_of, first_digits_of}
 use Rattle.ijson_number.proofs.Common.{number_digits_of, number_lt, All, cases_lt, length-take, All-from_recursion, recursion_from_All, Decimal}
 use Rattle.ijson_number.proofs.Common.{IsPlain, integer, HasValue, IsInteger, number_cmp, IsNum, stored_number, signed, length-append}
 use Rattle.ijson_number.proofs.Common.{get_or-append_seam, number_cmp_total, rescale, tests_equal, cmp_equal, nonneg, IsStripped, power_le}
 use Rattle.ijson_number.proofs.Common.{abs_signed}
 use Rattle.ijson_number.proofs.writing.DigitTexts.{below_take}
-use Rattle.ijson_number.proofs.comparing.MagnitudeOrder.{same_int_cmp, scaled_below, number_least}
+use Rattle.ijson_number.proofs.comparing.MagnitudeOrder.{scaled_below, number_least}
 use Rattle.ijson_number.proofs.parsing.Exponents.{within_in_range}
 use Rattle.ijson_number.proofs.parsing.Denotes.{stripped_plain}
 

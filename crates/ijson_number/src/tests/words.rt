@@ -4,7 +4,7 @@ use crate::repr::stored::Stored;
 use std::process::Abort;
 
 /// Numbers, and the word that stores each.
-const PACKED: [(&str, u64); 15] = [
+static PACKED: [(&str, u64); 15] = [
     ("0", 0x00000000000000f8),
     ("1", 0x00000000000001f8),
     ("-1", 0xfffffffffffffff8),
@@ -32,9 +32,9 @@ fn word_of(number: &INumber) -> Option<u64> {
 
 #[test]
 fn packed_words(rt: HostRuntime) {
-    for at in 0..PACKED.len() {
-        let (text, word) = PACKED[at];
+    for &(text, word) in &PACKED {
         let number = INumber::from_str(rt.alloc(), text).expect(&rt, "a number");
         assert!(rt; word_of(&number) == Some(word));
+        drop(number);
     }
 }
