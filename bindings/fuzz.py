@@ -24,11 +24,11 @@ from decimal import Decimal
 BINDINGS = pathlib.Path(__file__).resolve().parent
 sys.path[:0] = [str(BINDINGS.parent / "tests" / "fuzz"), str(BINDINGS / "python")]
 
-import ijson
 from answers import answer, quoted
+from ijson_proved._library import LIBRARY
 from seeds import SEEDS, STATED
 
-LIBRARY = ijson._LIBRARY
+SEED = 0x5EED
 OK, NOT_UTF8, SYNTAX, TOO_DEEP, NUMBER_RANGE, MEMORY, TOO_SHORT, NOT_POINTER, NOTHING = range(9)
 STATUSES = {"syntax": SYNTAX, "nesting too deep": TOO_DEEP, "number out of range": NUMBER_RANGE}
 TEXTS = SEEDS + [text for text, _ in STATED if len(text) < 300]
@@ -254,9 +254,13 @@ def patch_of(rng, value):
 # ---- calls
 
 
+def arguments(texts):
+    return [part for text in texts for part in (text, len(text))]
+
+
 def call_writing(name, texts, wanted, outcome):
     """Calls with outputs of each length, and returns how many. `wanted` are the bytes to be written, or None at an error."""
-    call, arguments, length = getattr(LIBRARY, f"ijson_{name}"), ijson._arguments(texts), ctypes.c_size_t()
+    call, length = getattr(LIBRARY, f"ijson_{name}"), ctypes.c_size_t()
     need = len(wanted) if wanted is not None else 0
     before = b"\xa5" * (need + AFTER)
     buffer = ctypes.create_string_buffer(before, len(before))
@@ -264,7 +268,7 @@ def call_writing(name, texts, wanted, outcome):
     for room in rooms:
         ctypes.memmove(buffer, before, len(before))
         length.value = 12345
-        got = call(ijson.SEED, *arguments, buffer, room, ctypes.byref(length))
+        got = call(SEED, *arguments(texts), buffer, room, ctypes.byref(length))
         now, got = buffer.raw, (got.status, got.text, got.offset)
         if wanted is None:
             right = got == outcome and length.value == 0 and now[room:] == before[room:]
@@ -279,7 +283,7 @@ def call_writing(name, texts, wanted, outcome):
 
 def call_number(name, seed, texts, kind, wanted, outcome):
     result = kind(77)
-    got = getattr(LIBRARY, f"ijson_{name}")(seed, *ijson._arguments(texts), ctypes.byref(result))
+    got = getattr(LIBRARY, f"ijson_{name}")(seed, *arguments(texts), ctypes.byref(result))
     if (got.status, got.text, got.offset) != (outcome or (OK, 0, 0)) or result.value != (0 if outcome else wanted):
         raise Failed(name, texts, (got.status, got.text, got.offset), result.value, wanted, outcome)
     return 1
@@ -332,7 +336,7 @@ def try_equal(rng, text):
     if rng.randrange(8) == 0:
         text, other = other, text
     a, b, fault = both(text, other)
-    return call_number("equal", ijson.SEED, [text, other], ctypes.c_uint8, int(same(a, b)), fault)
+    return call_number("equal", SEED, [text, other], ctypes.c_uint8, int(same(a, b)), fault)
 
 
 def try_hash(rng, text):

@@ -21,7 +21,7 @@ import time
 BINDINGS = pathlib.Path(__file__).resolve().parent
 sys.path.insert(0, str(BINDINGS / "python"))
 
-import ijson
+import ijson_proved
 
 
 def compact_by_json(text):
@@ -34,17 +34,17 @@ def sorted_by_json(text):
 
 def rows(text, other):
     """What is timed: a name, and each way to do it."""
-    compact = {"ijson": lambda: ijson.compact(text), "json": lambda: compact_by_json(text)}
-    canonical = {"ijson": lambda: ijson.canonical(text), "json": lambda: sorted_by_json(text)}
-    equal = {"ijson": lambda: ijson.equal(text, other), "json": lambda: json.loads(text) == json.loads(other)}
+    compact = {"ijson": lambda: ijson_proved.compact(text), "json": lambda: compact_by_json(text)}
+    canonical = {"ijson": lambda: ijson_proved.canonical(text), "json": lambda: sorted_by_json(text)}
+    equal = {"ijson": lambda: ijson_proved.equal(text, other), "json": lambda: json.loads(text) == json.loads(other)}
     if importlib.util.find_spec("orjson"):
         import orjson
 
         compact["orjson"] = lambda: orjson.dumps(orjson.loads(text))
         canonical["orjson"] = lambda: orjson.dumps(orjson.loads(text), option=orjson.OPT_SORT_KEYS)
         equal["orjson"] = lambda: orjson.loads(text) == orjson.loads(other)
-    return {"compact": compact, "canonical, sorted keys": canonical, "equal": equal, "hash": {"ijson": lambda: ijson.hash(text)},
-            "get": {"ijson": lambda: ijson.get(text, "/0")}}
+    return {"compact": compact, "canonical, sorted keys": canonical, "equal": equal, "hash": {"ijson": lambda: ijson_proved.hash(text)},
+            "get": {"ijson": lambda: ijson_proved.get(text, "/0")}}
 
 
 def seconds(call, turns):
@@ -67,7 +67,7 @@ def main():
         text = pathlib.Path(work, f"{options.file}.json").read_bytes()
     print(f"{len(text):,} bytes")
     print("| | ijson | json | orjson |\n|---|---|---|---|")
-    for name, ways in rows(text, ijson.compact(text).encode()).items():
+    for name, ways in rows(text, ijson_proved.compact(text).encode()).items():
         cells = [f"{seconds(ways[way], options.turns):.2f} s" if way in ways else "" for way in ("ijson", "json", "orjson")]
         print(f"| {name} | " + " | ".join(cells) + " |", flush=True)
 
