@@ -5,6 +5,7 @@ The files of `ijson_c/` have the suffix `.txt`, since the gate wants every `.rt`
 
 import contextlib
 import pathlib
+import re
 import shutil
 import subprocess
 import sys
@@ -69,20 +70,28 @@ def assemble(work):
     return crate
 
 
+def exported():
+    """The functions of `ijson.h`."""
+    return re.findall(r"^ijson_outcome (\w+)\(", (BINDINGS / "c" / "ijson.h").read_text(encoding="utf-8"), re.MULTILINE)
+
+
 def link(crate):
     """Makes the static and the shared library in out/ of what `rt lib` left in the crate's folder.
 
-    The kit's liblibc_c.a has the three functions by which the library allocates.
+    The kit's liblibc_c.a has the three functions by which the library allocates. Only the functions of ijson.h are visible, so no name of the
+    library meets one of the program.
     """
-    library, heap = crate / "out" / f"lib{CRATE}.a", KIT / "c" / "liblibc_c.a"
+    archives, names = [crate / "out" / f"lib{CRATE}.a", KIT / "c" / "liblibc_c.a"], exported()
     OUT.mkdir(exist_ok=True)
     shutil.copy(BINDINGS / "c" / "ijson.h", OUT)
-    script = f"create {OUT / 'libijson.a'}\naddlib {library}\naddlib {heap}\nsave\nend\n"
-    run(["ar", "-M"], OUT, input=script, text=True)
-    # Only the functions of ijson.h are visible, so that nothing of the library is replaced by a name of the program.
-    (crate / "out" / "exports").write_text("{ global: ijson_*; local: *; };\n")
-    run(["cc", "-shared", "-o", OUT / "libijson.so", "-Wl,--whole-archive", library, "-Wl,--no-whole-archive", heap,
-         f"-Wl,--version-script={crate / 'out' / 'exports'}"], OUT)
+    whole, static = crate / "out" / "ijson.o", OUT / "libijson.a"
+    run(["ld", "-r", "-o", whole, *(f"--undefined={name}" for name in names), *archives], OUT)
+    run(["objcopy", *(f"--keep-global-symbol={name}" for name in names), whole], OUT)
+    static.unlink(missing_ok=True)
+    run(["ar", "rcs", static, whole], OUT)
+    exports = crate / "out" / "exports"
+    exports.write_text(f"{{ global: {'; '.join(names)}; local: *; }};\n")
+    run(["cc", "-shared", "-o", OUT / "libijson.so", whole, "-Wl,-soname,libijson.so.0", "-Wl,-z,relro,-z,now", f"-Wl,--version-script={exports}"], OUT)
 
 
 @contextlib.contextmanager

@@ -11,6 +11,11 @@
 #ifndef IJSON_H
 #define IJSON_H
 
+#define IJSON_VERSION_MAJOR 0
+#define IJSON_VERSION_MINOR 2
+#define IJSON_VERSION_PATCH 0
+#define IJSON_VERSION "0.2.0"
+
 #include <stddef.h>
 #include <stdint.h>
 
