@@ -1,5 +1,5 @@
 /* Calls each function with outputs of each length in memory of exactly that length, so that a checker of memory sees a write past it. */
-#include "ijson.h"
+#include <ijson.h>
 
 #include <assert.h>
 #include <stdio.h>

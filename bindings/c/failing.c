@@ -1,0 +1,49 @@
+/* Linked with a program by --wrap: of its calls of malloc, realloc, fread, fwrite, fflush and getentropy, the one of the number FAIL_AT fails. */
+#include <stdio.h>
+#include <stdlib.h>
+
+static int read_failed;
+
+static int fails(void) {
+    static long calls;
+    const char *at = getenv("FAIL_AT");
+    return at && ++calls == atol(at);
+}
+
+void *__real_malloc(size_t size);
+void *__real_realloc(void *block, size_t size);
+size_t __real_fread(void *bytes, size_t size, size_t count, FILE *file);
+size_t __real_fwrite(const void *bytes, size_t size, size_t count, FILE *file);
+int __real_ferror(FILE *file);
+int __real_fflush(FILE *file);
+int __real_getentropy(void *bytes, size_t size);
+
+void *__wrap_malloc(size_t size) {
+    return fails() ? NULL : __real_malloc(size);
+}
+
+void *__wrap_realloc(void *block, size_t size) {
+    return fails() ? NULL : __real_realloc(block, size);
+}
+
+/* The bytes before the failure are read. */
+size_t __wrap_fread(void *bytes, size_t size, size_t count, FILE *file) {
+    read_failed = fails();
+    return __real_fread(bytes, size, read_failed ? count / 2 : count, file);
+}
+
+int __wrap_ferror(FILE *file) {
+    return read_failed || __real_ferror(file);
+}
+
+size_t __wrap_fwrite(const void *bytes, size_t size, size_t count, FILE *file) {
+    return fails() ? 0 : __real_fwrite(bytes, size, count, file);
+}
+
+int __wrap_fflush(FILE *file) {
+    return fails() ? EOF : __real_fflush(file);
+}
+
+int __wrap_getentropy(void *bytes, size_t size) {
+    return fails() ? -1 : __real_getentropy(bytes, size);
+}
