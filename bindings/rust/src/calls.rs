@@ -2,6 +2,7 @@
 #![forbid(unsafe_code)]
 
 use crate::border::{self, Outcome};
+use crate::status;
 use std::collections::hash_map::RandomState;
 use std::fmt;
 use std::hash::{BuildHasher, Hasher};
@@ -9,6 +10,7 @@ use std::sync::OnceLock;
 
 /// Why there is no result. `text` is the index of the text at fault among the arguments, and `offset` that of the byte, from 0.
 #[derive(Clone, Copy, Debug, PartialEq, Eq)]
+#[non_exhaustive]
 pub enum Error {
     NotUtf8 {
         text: usize,
@@ -33,6 +35,10 @@ pub enum Error {
     NotPointer,
     /// The pointer refers to no value.
     Nothing,
+    /// The library returned a status that this crate does not know.
+    Unknown {
+        status: u32,
+    },
 }
 
 impl fmt::Display for Error {
@@ -44,14 +50,13 @@ impl fmt::Display for Error {
             Error::NumberRange { text, offset } => write!(f, "text {text} has a number out of range at byte {offset}"),
             Error::Memory => write!(f, "out of memory"),
             Error::NotPointer => write!(f, "not a JSON Pointer"),
-            Error::Nothing => write!(f, "no value there"),
+            Error::Nothing => write!(f, "no value at the pointer"),
+            Error::Unknown { status } => write!(f, "unknown status {status}"),
         }
     }
 }
 
 impl std::error::Error for Error {}
-
-const TOO_SHORT: u32 = 6;
 
 /// Returns the random seed of this process.
 fn seed() -> u64 {
@@ -63,14 +68,15 @@ fn checked(outcome: Outcome) -> Result<(), Error> {
     let Outcome { status, text, offset } = outcome;
     let text = text as usize;
     Err(match status {
-        0 => return Ok(()),
-        1 => Error::NotUtf8 { text },
-        2 => Error::Syntax { text, offset },
-        3 => Error::TooDeep { text, offset },
-        4 => Error::NumberRange { text, offset },
-        5 => Error::Memory,
-        7 => Error::NotPointer,
-        _ => Error::Nothing,
+        status::OK => return Ok(()),
+        status::NOT_UTF8 => Error::NotUtf8 { text },
+        status::SYNTAX => Error::Syntax { text, offset },
+        status::TOO_DEEP => Error::TooDeep { text, offset },
+        status::NUMBER_RANGE => Error::NumberRange { text, offset },
+        status::MEMORY => Error::Memory,
+        status::NOT_POINTER => Error::NotPointer,
+        status::NOTHING => Error::Nothing,
+        _ => Error::Unknown { status },
     })
 }
 
@@ -80,7 +86,7 @@ fn written(room: usize, call: impl Fn(&mut [u8], &mut usize) -> Outcome) -> Resu
     loop {
         let mut output = vec![0; length];
         let outcome = call(&mut output, &mut length);
-        if outcome.status != TOO_SHORT {
+        if outcome.status != status::TOO_SHORT {
             checked(outcome)?;
             output.truncate(length);
             return Ok(String::from_utf8(output).expect("the library writes UTF-8"));
@@ -109,7 +115,10 @@ pub fn canonical(text: impl AsRef<[u8]>) -> Result<String, Error> {
 /// Returns the compact text of the value at a JSON Pointer (RFC 6901).
 pub fn get(text: impl AsRef<[u8]>, pointer: impl AsRef<[u8]>) -> Result<String, Error> {
     let (text, pointer) = (text.as_ref(), pointer.as_ref());
-    written(64, |output, length| border::get(seed(), text, pointer, output, length))
+    // As long as the text, so that it is read once; memory that the value does not fill is not touched.
+    written(text.len() + 64, |output, length| {
+        border::get(seed(), text, pointer, output, length)
+    })
 }
 
 /// Returns the compact text of `target` after a JSON Merge Patch (RFC 7396).
@@ -132,4 +141,33 @@ pub fn hash(seed: u64, text: impl AsRef<[u8]>) -> Result<u64, Error> {
     let mut hash = 0;
     checked(border::hash(seed, text.as_ref(), &mut hash))?;
     Ok(hash)
+}
+
+#[cfg(test)]
+mod tests {
+    use super::*;
+
+    #[test]
+    fn an_unknown_status_is_no_other_error() {
+        for status in [status::TOO_SHORT, 9, u32::MAX] {
+            let outcome = Outcome {
+                status,
+                text: 0,
+                offset: 0,
+            };
+            assert_eq!(checked(outcome), Err(Error::Unknown { status }));
+        }
+    }
+
+    #[test]
+    fn a_value_is_got_by_one_reading() {
+        use std::cell::Cell;
+        let calls = Cell::new(0);
+        let text = format!("[{}]", "\"é\",".repeat(500) + "0");
+        let line = written(text.len() + 64, |output, length| {
+            calls.set(calls.get() + 1);
+            border::get(seed(), text.as_bytes(), b"", output, length)
+        });
+        assert_eq!((line, calls.get()), (Ok(text.clone()), 1));
+    }
 }

@@ -15,5 +15,6 @@
 
 mod border;
 mod calls;
+mod status;
 
 pub use calls::{canonical, compact, equal, get, hash, merge_patch, Error};
