@@ -271,7 +271,7 @@ def call_writing(name, texts, wanted, outcome):
         got = call(SEED, *arguments(texts), buffer, room, ctypes.byref(length))
         now, got = buffer.raw, (got.status, got.text, got.offset)
         if wanted is None:
-            right = got == outcome and length.value == 0 and now[room:] == before[room:]
+            right = got == outcome and length.value == 0 and now == before
         elif room < need:
             right = got == (TOO_SHORT, 0, 0) and length.value == need and now == before
         else:

@@ -22,6 +22,10 @@ Cflags: -I${{includedir}}
 """
 
 
+class Missing(Exception):
+    """A tool is missing."""
+
+
 def version():
     """The version, by the header."""
     return re.search(r'#define IJSON_VERSION "(.*)"', (BINDINGS / "c" / "ijson.h").read_text())[1]
@@ -49,7 +53,7 @@ def python_with_wheel():
     for python in sys.executable, "/usr/bin/python3":
         if not subprocess.run([python, "-c", "import setuptools, wheel, pip"], capture_output=True).returncode:
             return python
-    sys.exit("bindings/build: a wheel needs pip, setuptools and wheel, in Debian python3-pip and python3-wheel")
+    raise Missing("a Python with pip, setuptools and wheel is missing, in Debian python3-pip and python3-wheel")
 
 
 def wheel():
