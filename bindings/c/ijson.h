@@ -3,10 +3,12 @@
  * No function keeps anything between calls, so threads may call them at the same time. Memory comes from malloc and is freed before a
  * function returns.
  *
- * The caller guarantees that every pointer is not null, also at a length of 0; that a length is the number of bytes at the pointer before
- * it; that the output and the result are writable, and apart from each other and from the texts; that nothing else changes a text, or uses
- * the output or the result, during the call; and that no function is called from a signal handler, or in a forked child of a process with
- * threads.
+ * The caller guarantees that
+ * - every pointer is not null, also at a length of 0, and a length is the number of bytes at the pointer before it;
+ * - the output and the result are writable, and apart from each other and from the texts;
+ * - nothing else, as another thread or a signal handler, changes a text or uses the output or the result during the call;
+ * - malloc, realloc and free are one allocator, which aligns a block to each power of two up to 16 that divides its size;
+ * - the call is neither in a signal handler nor in a forked child of a process with threads.
  */
 #ifndef IJSON_H
 #define IJSON_H
@@ -26,8 +28,8 @@ extern "C" {
 enum {
     IJSON_OK = 0,
     IJSON_NOT_UTF8 = 1,     /* a text is not UTF-8 */
-    IJSON_SYNTAX = 2,       /* a text is not JSON; the offset is that of the first byte that no JSON text could have there, the length if
-                               the text ends too early, or that of the backslash of a bad escape */
+    IJSON_SYNTAX = 2,       /* a text is not JSON; the offset is that of the first byte that no JSON text could have there, in an escape
+                               that of its backslash, or the length if the text ends early */
     IJSON_TOO_DEEP = 3,     /* nesting deeper than 127; the offset is that of the opening bracket */
     IJSON_NUMBER_RANGE = 4, /* an exponent outside -2^30 to 2^30, without trailing zeros; the offset is that of the number */
     IJSON_MEMORY = 5,       /* an allocation failed */
@@ -43,7 +45,8 @@ typedef struct {
 } ijson_outcome;
 
 /* The seed is a random number, best chosen once for a process: with a number that an attacker knows, texts can be made whose reading takes
- * quadratic time. Of the results, only that of ijson_hash depends on it; its seed serves for reading too.
+ * quadratic time. Only the result of ijson_hash depends on it: a hash that is the same from run to run needs a seed that is too, so keep it
+ * secret. Keys of objects can be chosen that make looking them up take quadratic time whatever the seed, so limit the size of texts.
  *
  * The first four functions write a text to the start of the output and set *length to its length. If it does not fit, the status is
  * IJSON_TOO_SHORT; so a call with an output of length 0 returns the length that is needed. At any other failure *length is 0.
