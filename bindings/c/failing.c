@@ -1,13 +1,19 @@
-/* Linked with a program by --wrap: of its calls of malloc, realloc, fread, fwrite, fflush and getentropy, the one of the number FAIL_AT fails. */
+/* Linked with a program by --wrap: of its calls of malloc, realloc, fread, fwrite, fflush and getentropy, the one that fail_at counts from now
+ * fails; 0 for none. The environment variable FAIL_AT sets it at the start.
+ */
 #include <stdio.h>
 #include <stdlib.h>
 
+long fail_at;
 static int read_failed;
 
-static int fails(void) {
-    static long calls;
+__attribute__((constructor)) static void read_environment(void) {
     const char *at = getenv("FAIL_AT");
-    return at && ++calls == atol(at);
+    fail_at = at ? atol(at) : 0;
+}
+
+static int fails(void) {
+    return fail_at > 0 && --fail_at == 0;
 }
 
 void *__real_malloc(size_t size);

@@ -1,10 +1,14 @@
-/* Calls each function with outputs of each length in memory of exactly that length, so that a checker of memory sees a write past it. */
+/* Calls each function with outputs of each length in memory of exactly that length, so that a checker of memory sees a write past it, and with
+ * each of its allocations failing.
+ */
 #include <ijson.h>
 
 #include <assert.h>
 #include <stdio.h>
 #include <stdlib.h>
 #include <string.h>
+
+extern long fail_at; /* of failing.c */
 
 struct text {
     uint8_t *bytes;
@@ -51,6 +55,9 @@ static const struct {
     {merge_patch, "{\"a\":1,\"b\":{\"c\":2}}", "{\"a\":null,\"b\":{\"d\":\"e\"}}", "{\"b\":{\"c\":2,\"d\":\"e\"}}"},
 };
 
+/* A value that owns memory. */
+#define OWNER "{\"a\":[\"a string of more than 7 bytes\",1234567890123456789012345678901234567890]}"
+
 static const struct {
     writes *call;
     const char *first, *second;
@@ -62,6 +69,11 @@ static const struct {
     {get, "[]", "/0", {IJSON_NOTHING, 0, 0}},
     {get, "[]", "0", {IJSON_NOT_POINTER, 0, 0}},
     {merge_patch, "{}", "[1,", {IJSON_SYNTAX, 1, 3}},
+    {merge_patch, OWNER, "[\"a string of more than 7 bytes\",]", {IJSON_SYNTAX, 1, 33}},
+    {get, OWNER, "/b", {IJSON_NOTHING, 0, 0}},
+    {get, OWNER, "b", {IJSON_NOT_POINTER, 0, 0}},
+    {get, OWNER, "/\xff", {IJSON_NOT_POINTER, 0, 0}},
+    {canonical, "[\"a string of more than 7 bytes\",\"another one of more\" 1]", "", {IJSON_SYNTAX, 0, 55}},
 };
 
 static void is_written(writes *call, struct text first, struct text second, const char *want) {
@@ -78,10 +90,48 @@ static void is_written(writes *call, struct text first, struct text second, cons
 }
 
 static void is_refused(writes *call, struct text first, struct text second, ijson_outcome want) {
-    uint8_t output[1];
+    uint8_t output[8], before[8];
     size_t length = 1000;
+    memset(output, 0xa5, sizeof output);
+    memcpy(before, output, sizeof before);
     ijson_outcome got = call(first, second, output, sizeof output, &length);
     assert(got.status == want.status && got.text == want.text && got.offset == want.offset && length == 0);
+    assert(memcmp(output, before, sizeof output) == 0);
+}
+
+/* Returns how many allocations the call makes. */
+static long is_refused_memory(writes *call, struct text first, struct text second) {
+    for (long at = 1;; at++) {
+        uint8_t output[200];
+        size_t length = 1000;
+        fail_at = at;
+        ijson_outcome outcome = call(first, second, output, sizeof output, &length);
+        if (fail_at > 0) {
+            fail_at = 0;
+            assert(outcome.status == IJSON_OK);
+            return at - 1;
+        }
+        assert(outcome.status == IJSON_MEMORY && outcome.text == 0 && outcome.offset == 0 && length == 0);
+    }
+}
+
+static long numbers_are_refused_memory(struct text text) {
+    for (long at = 1;; at++) {
+        uint8_t equal = 7;
+        uint64_t hash = 7;
+        fail_at = at;
+        ijson_outcome outcome = ijson_equal(1, text.bytes, text.count, text.bytes, text.count, &equal);
+        if (fail_at > 0) {
+            fail_at = 0;
+            assert(outcome.status == IJSON_OK && equal == 1);
+            return at - 1;
+        }
+        assert(outcome.status == IJSON_MEMORY && equal == 0);
+        fail_at = at;
+        outcome = ijson_hash(1, text.bytes, text.count, &hash);
+        assert(fail_at > 0 ? outcome.status == IJSON_OK : outcome.status == IJSON_MEMORY && hash == 0);
+        fail_at = 0;
+    }
 }
 
 static void are_compared(const char *a, const char *b, uint8_t want) {
@@ -99,6 +149,7 @@ int main(void) {
     for (size_t i = 0; i < sizeof WRITTEN / sizeof *WRITTEN; i++) {
         struct text first = text_of(WRITTEN[i].first), second = text_of(WRITTEN[i].second);
         is_written(WRITTEN[i].call, first, second, WRITTEN[i].want);
+        assert(is_refused_memory(WRITTEN[i].call, first, second) > 3);
         free(first.bytes);
         free(second.bytes);
     }
@@ -108,6 +159,9 @@ int main(void) {
         free(first.bytes);
         free(second.bytes);
     }
+    struct text owner = text_of(OWNER);
+    assert(numbers_are_refused_memory(owner) > 6);
+    free(owner.bytes);
     are_compared("{\"a\":1,\"b\":[\"a string of more than 7 bytes\"]}", "{\"b\":[\"a string of more than 7 bytes\"],\"a\":1e0}", 1);
     are_compared("[1.0]", "[2]", 0);
     puts("ok");

@@ -22,7 +22,8 @@ A text is `str`, `bytes`, `bytearray` or `memoryview`; anything else is a `TypeE
 for files.
 """
 
-from ijson_proved._calls import Text, canonical, compact, equal, get, hash, merge_patch
+from ijson_proved._calls import Text, canonical, compact, equal, get, merge_patch
+from ijson_proved._calls import hash as hash
 from ijson_proved._errors import Error, NotJsonError, NotPointerError, NotUtf8Error, NoValueError, NumberRangeError, TooDeepError
 
 __version__ = "0.2.0"

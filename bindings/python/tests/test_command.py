@@ -1,11 +1,15 @@
 """Tests of `python3 -m ijson_proved`: what each command writes, where it finds a text wrong, and its status."""
 
+import contextlib
 import os
 import pathlib
+import pty
 import random
+import signal
 import subprocess
 import sys
 import tempfile
+import threading
 import unittest
 
 import ijson_proved
@@ -13,6 +17,21 @@ import ijson_proved
 FOLDER = pathlib.Path(ijson_proved.__file__).parent.parent
 ENVIRONMENT = {**os.environ, "PYTHONPATH": str(FOLDER)}
 LINES = b'[1.0, 2 ]\n{"b":1,"a":[]}\n[1 2]\n[1,2.0]\n{"a":[],"b":1e0}\n'
+
+# Stands for tqdm, and prints how many bytes were counted, of how many.
+BAR = b"""
+import contextlib, sys
+
+class tqdm(contextlib.AbstractContextManager):
+    def __init__(self, total, **options):
+        self.total, self.count = total, 0
+
+    def update(self, count):
+        self.count += count
+
+    def __exit__(self, *exception):
+        print(self.count, "of", self.total, file=sys.stderr)
+"""
 
 
 def random_line(chance):
@@ -149,6 +168,39 @@ class Command(unittest.TestCase):
         command.stdout.close()
         self.assertEqual((command.stderr.read(), command.wait(60)), (b"", 2))
         command.stderr.close()
+
+    def test_a_terminal_shows_a_bar(self):
+        self.file("tqdm.py", BAR)
+        lines = self.file("lines", b"[1, 2]\n" * 1000)
+        first, second = pty.openpty()
+        self.addCleanup(os.close, first)
+        done = subprocess.run([sys.executable, "-B", "-m", "ijson_proved", "dedup", lines, lines], cwd=self.folder, env=ENVIRONMENT,
+                              stdout=subprocess.PIPE, stderr=second)
+        os.close(second)
+        self.assertEqual((done.stdout, os.read(first, 100)), (b"[1, 2]\n", b"14000 of 14000\r\n"))
+        self.check(["dedup", lines], b"[1, 2]\n")
+
+    def test_an_interrupt_ends_all_processes(self):
+        command = subprocess.Popen([sys.executable, "-B", "-m", "ijson_proved", "compact", "--lines", "--jobs", "2"], cwd=self.folder, env=ENVIRONMENT,
+                                   stdin=subprocess.PIPE, stdout=subprocess.PIPE, stderr=subprocess.PIPE, start_new_session=True)
+        line = b"[" + b"1, " * 10_000 + b"1]\n"
+
+        def feed():
+            with contextlib.suppress(BrokenPipeError):
+                while True:
+                    command.stdin.write(line)
+
+        feeder = threading.Thread(target=feed)
+        feeder.start()
+        self.assertEqual(command.stdout.readline(), line.replace(b" ", b""))
+        os.killpg(command.pid, signal.SIGINT)
+        command.stdout.read()
+        self.assertEqual((command.wait(60), command.stderr.read()), (130, b""))
+        feeder.join()
+        for pipe in command.stdout, command.stderr:
+            pipe.close()
+        with contextlib.suppress(BrokenPipeError):
+            command.stdin.close()
 
 
 if __name__ == "__main__":
