@@ -205,7 +205,7 @@ fn read_exponent(bytes: &[u8]) -> Option<(i32, usize)>
     Some((power, bytes.len() - rest.len()))
 }
 
-/// Adds the exponent that follows, if there is one.
+/// Adds the exponent that follows, if there is one. The exponent of zero is 0.
 ///
 /// Inlined, so that the return slot of `read_exponent` is zeroed only if there is an exponent.
 #[inline(always)]
@@ -219,10 +219,17 @@ fn with_exponent(front: Front, rest: &[u8]) -> Option<Front>
     ensures none { IfNone result ((behind : List ℕ) → IsExponentTail rest.now behind → ⊥) }
 {
     let (power, length) = read_exponent(rest)?;
+    let mantissa = front.significand;
+    // stripping the zeros of a zero takes a step for each power of ten below 0
+    let exponent = if mantissa.magnitude == 0 {
+        0
+    } else {
+        mantissa.exponent + power
+    };
     let significand = Significand {
-        exponent: front.significand.exponent + power,
+        exponent,
         point: true,
-        ..front.significand
+        ..mantissa
     };
     Some(Front {
         significand,

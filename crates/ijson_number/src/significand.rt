@@ -1,5 +1,5 @@
 //! A number as a sign, a magnitude of one word, and an exponent.
-ghost use Rattle.std.specs.Prelude.{◌≡◌, ◌≢◌, ◌%◌, ◌≤◌, ◌⊎◌, pos, neg_ℤ, ◌<ℤ◌, ◌≤ℤ◌};
+ghost use Rattle.std.specs.Prelude.{◌≡◌, ◌≢◌, ◌%◌, ◌≤◌, ◌⊎◌, pos, neg_ℤ, ◌+ℤ◌, ◌<ℤ◌, ◌≤ℤ◌};
 ghost use Rattle.ijson_number.specs.private.Significand.{HasFewerTens, canonical_number, significand_number};
 
 /// `magnitude * 10^exponent`, negated if `negative`.
@@ -16,8 +16,12 @@ pub struct Significand {
 
 impl Significand {
     /// Strips trailing zeros while the exponent is below `end`.
+    ///
+    /// A magnitude of 0 stays 0, and its exponent becomes `end`. At most 20 steps: call it for 0 only if `end` is at most 20 above the
+    /// exponent.
     #[inline(always)]
     pub fn strip_trailing_zeros(self, end: i32) -> Significand
+        requires steps { self.magnitude ≡ 0 → end ≤ℤ (self.exponent +ℤ pos 20) }
         ensures tens { HasFewerTens self result }
         ensures stripped { result.exponent <ℤ end → result.magnitude % 10 ≢ 0 }
         ensures most { (result.exponent ≤ℤ end) ⊎ (result.exponent ≡ self.exponent) }

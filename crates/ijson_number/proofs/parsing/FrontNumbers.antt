@@ -4,11 +4,11 @@ use Rattle.ijson_number.proofs.Common.{refl, sym, subst, ap, append_assoc, arith
 use Rattle.ijson_number.proofs.Common.{length-take-le, take-append-drop, AllDigits, IsExponent, IsFraction, IsSpelled, Parts, Spells, value, IsNum}
 use Rattle.ijson_number.proofs.Common.{signed, EndsToken, stripped_number, drop-append-add, take-append_seam, IsFront, IsMantissa, IsPower}
 use Rattle.ijson_number.proofs.Common.{IsPowerSmall, significand_number, significand_of, IsExponentSignTaken, IsTaken, power_le, FitsSigned}
-use Rattle.ijson_number.proofs.Common.{to_z-of_z, to_z, of_z}
+use Rattle.ijson_number.proofs.Common.{to_z-of_z, to_z, of_z, cases_eq, ◌≢◌, ◌≤ℤ◌, inl, inr}
 use Rattle.std.proofs.Math.Bool.{or-false, or-true}
 use Rattle.ijson_number.specs.declared.fast_reader.Front.{Front}
 use Rattle.ijson_number.specs.declared.significand.Significand.{Significand}
-use Rattle.ijson_number.proofs.storing.Significands.{parts_number}
+use Rattle.ijson_number.proofs.storing.Significands.{parts_number, zero_number}
 use Rattle.ijson_number.proofs.parsing.DigitValues.{value_small}
 use Rattle.ijson_number.proofs.parsing.DigitRuns.{IsDigits_from}
 use Rattle.ijson_number.proofs.parsing.CommonFronts.{behind_taken, sign_of}
@@ -63,13 +63,12 @@ module _ (text : List ℕ) (f : Front) (rest : List ℕ) (m : IsMantissa text f 
   pub whole_length : length text ≡ f.length + length rest
   whole_length = ap length m.text_is ∙ length-append front rest ∙ ap (λ n. n + length rest) (sym m.length_is)
 
-  -- with `count` bytes of an exponent they are a number
-  at_exponent : (s : Significand) (z : ℤ) (written : Bool) (count : ℕ) → count ≤ length rest → IsExponent (take count rest) z written
-      → EndsToken (drop count rest) → IsPowerSmall z → s.negative ≡ f.significand.negative → s.magnitude ≡ f.significand.magnitude
+  -- with `count` bytes of an exponent they spell a number
+  spelled_at : (s : Significand) (z : ℤ) (written : Bool) (count : ℕ) → count ≤ length rest → IsExponent (take count rest) z written
+      → IsPowerSmall z → s.negative ≡ f.significand.negative → s.magnitude ≡ f.significand.magnitude
       → s.exponent ≡ f.significand.exponent +ℤ z → s.point ≡ f.significand.point || written
-      → (s.point ≡ false → s.exponent ≡ pos 0)
-      → IsFront text (record { significand = s; length = f.length + count })
-  at_exponent s z written count within is ends small negative magnitude exponent point integer =
+      → Spells (take (f.length + count) text) (significand_number s) × IsNum (significand_number s)
+  spelled_at s z written count within is small negative magnitude exponent point =
       let few = m.few in
       let low = small.0 in
       let high = small.1 in
@@ -79,15 +78,26 @@ module _ (text : List ℕ) (f : Front) (rest : List ℕ) (m : IsMantissa text f 
       (omega (arith, ints)) (omega (arith, ints)) (magnitude ∙ m.magnitude_is) (omega (arith, magnitude)) in
       let same : stripped_number (signed f.significand.negative s.magnitude) s.exponent (f.significand.point || written)
       ≡ significand_number s = rw (negative, point) refl in
+      (rw (taken count within) (subst (Spells (front ++ take count rest)) same n.0), subst IsNum same n.1)
+
+  -- a number that they spell, which ends the token
+  front_of : (s : Significand) (count : ℕ) → count ≤ length rest → EndsToken (drop count rest)
+      → Spells (take (f.length + count) text) (significand_number s) × IsNum (significand_number s)
+      → s.magnitude ≡ f.significand.magnitude → (neg_ℤ (pos 10050) ≤ℤ s.exponent) × (s.exponent ≤ℤ pos 10050)
+      → (s.point ≡ false → s.exponent ≡ pos 0) → (s.magnitude ≡ 0 → neg_ℤ (pos 19) ≤ℤ s.exponent)
+      → IsFront text (record { significand = s; length = f.length + count })
+  front_of s count within ends n magnitude range integer zero =
+      let bound = m.small in
       record {
         within = omega (arith, whole_length);
-        spelled = rw (taken count within) (subst (Spells (front ++ take count rest)) same n.0);
+        spelled = n.0;
         small = record {
           magnitude = omega (arith, magnitude);
-          low = omega (arith, ints, e);
-          high = omega (arith, ints, e);
+          low = range.0;
+          high = range.1;
           integer = integer;
-          num = subst IsNum same n.1;
+          zero = zero;
+          num = n.1;
         };
         ends = rw (behind count) ends;
       }
@@ -133,23 +143,51 @@ power_at (b ∷ number) digits negative magnitude count z some begins sign one t
       ends = rw (behind_taken (b ∷ number) digits negative count (omega arith) sign) ends;
     }
 
--- the mantissa with the exponent that was read is a number
+-- a significand of zero denotes the same number with any exponent
+zero_same : (negative : Bool) (magnitude : ℕ) (e f : ℤ) (point : Bool) → magnitude ≡ 0
+    → significand_number (significand_of negative magnitude e point) ≡ significand_number (significand_of negative magnitude f point)
+zero_same negative magnitude e f point none = zero_number negative magnitude e point none ∙ sym (zero_number negative magnitude f point none)
+
+-- the mantissa with the exponent that was read is a number; the exponent of zero is 0
 pub front_with : (text rest : List ℕ) (f : Front) (m : IsMantissa text f rest) (power exponent : ℤ) (count : ℕ) → IsPower rest power count
-    → exponent ≡ f.significand.exponent +ℤ power
+    → (f.significand.magnitude ≡ 0 → exponent ≡ pos 0) → (f.significand.magnitude ≢ 0 → exponent ≡ f.significand.exponent +ℤ power)
     → let s = f.significand in
     IsFront text (record { significand = significand_of s.negative s.magnitude exponent true; length = f.length + count })
-front_with text rest f m power exponent count is e =
-    at_exponent text f rest m (significand_of f.significand.negative f.significand.magnitude exponent true) power true count
-    is.within is.exponent is.ends is.small refl refl e (sym (or-true _)) (λ h. absurd (cc))
+front_with text rest f m power exponent count is zero others =
+    let s = f.significand in
+    let few = m.few in
+    let at = m.exponent_is in
+    let low = is.small.0 in
+    let high = is.small.1 in
+    let sum : ℤ = s.exponent +ℤ power in
+    let t : Significand = significand_of s.negative s.magnitude sum true in
+    let n = spelled_at text f rest m t power true count is.within is.exponent is.small refl refl refl (sym (or-true _)) in
+    let same : significand_number t ≡ significand_number (significand_of s.negative s.magnitude exponent true) =
+    elim (cases_eq s.magnitude 0) [
+      | inl none ↦ zero_same s.negative s.magnitude sum exponent true none
+      | inr some ↦ ap (λ e. significand_number (significand_of s.negative s.magnitude e true)) (sym (others some))
+    ] in
+    let range : (neg_ℤ (pos 10050) ≤ℤ exponent) × (exponent ≤ℤ pos 10050) =
+    elim (cases_eq s.magnitude 0) [
+      | inl none ↦ (let e = zero none in (omega (arith, ints), omega (arith, ints)))
+      | inr some ↦ (let e = others some in (omega (arith, ints), omega (arith, ints)))
+    ] in
+    front_of text f rest m (significand_of s.negative s.magnitude exponent true) count is.within is.ends
+    (subst (λ d. Spells (take (f.length + count) text) d × IsNum d) same n) refl range (λ h. absurd (cc))
+    (λ none. let e = zero none in omega (arith, ints))
 
 -- and it is one without an exponent
 pub front_alone : (text rest : List ℕ) (f : Front) → IsMantissa text f rest → EndsToken rest → IsFront text f
 front_alone text rest f m ends =
     let s = f.significand in
+    let few = m.few in
+    let at = m.exponent_is in
     let none : f.length + 0 ≡ f.length = omega arith in
     let zero : s.exponent ≡ s.exponent +ℤ pos 0 = omega (arith, ints) in
-    rw (← none) (at_exponent text f rest m s (pos 0) false 0 (omega arith) (refl, refl) ends (omega (arith, ints), omega (arith, ints))
-    refl refl zero (sym (or-false _)) (integer s.point m.fraction_text m.fraction m.fraction_is m.exponent_is))
+    let n = spelled_at text f rest m s (pos 0) false 0 (omega arith) (refl, refl) (omega (arith, ints), omega (arith, ints)) refl refl zero
+    (sym (or-false _)) in
+    rw (← none) (front_of text f rest m s 0 (omega arith) ends n refl (omega (arith, ints), omega (arith, ints))
+    (integer s.point m.fraction_text m.fraction m.fraction_is m.exponent_is) (λ _. omega (arith, ints)))
   where
     integer : (point : Bool) (text digits : List ℕ) → IsFraction text digits point → {e : ℤ} → e ≡ neg_ℤ (pos (length digits)) → point ≡ false → e ≡ pos 0
     integer point [] digits f is h = rw f.0 at is

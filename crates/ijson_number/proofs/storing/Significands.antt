@@ -206,6 +206,7 @@ small_less s t small h most negative point pointed =
       low = omega (arith, ints);
       high = elim most [ inl few ↦ omega (arith, ints) | inr same ↦ omega (arith, ints) ];
       integer = λ none. absurd (let e : true ≡ false = sym pointed ∙ none in cc);
+      zero = λ none. let low = small.zero (h.magnitude ∙ rw none (omega arith)) in omega (arith, ints);
       num = subst IsNum (sym (fewer_tens s t (omega (arith, m)) h negative point)) small.num;
     }
 

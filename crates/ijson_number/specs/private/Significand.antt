@@ -77,12 +77,14 @@ pub record IsPower (text : List ℕ) (power : ℤ) (count : ℕ) : Type 0 where
   pub small : IsPowerSmall power
   pub ends : EndsToken (drop count text)
 
--- a magnitude below 10 ^ 19, a small exponent, which is 0 without the fraction point, and a number within the limits
+-- a magnitude below 10 ^ 19, a small exponent, and a number within the limits; the exponent is 0 without the fraction point, and that of
+-- zero is at least -19
 pub record IsSmall (s : Significand) : Type 0 where
   pub magnitude : s.magnitude < 10 ^ 19
   pub low : neg_ℤ (pos 10050) ≤ℤ s.exponent
   pub high : s.exponent ≤ℤ pos 10050
   pub integer : s.point ≡ false → s.exponent ≡ pos 0
+  pub zero : s.magnitude ≡ 0 → neg_ℤ (pos 19) ≤ℤ s.exponent
   pub num : IsNum (significand_number s)
 
 -- a leading number, and its length in bytes
