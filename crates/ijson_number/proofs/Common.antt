@@ -62,7 +62,7 @@ pub use Rattle.ijson_number.specs.private.CanonicalSpelling.{spelled_digits, spe
 pub use Rattle.ijson_number.specs.private.PrefixDigits.{IsCount, IsTaken}
 pub use Rattle.ijson_number.specs.private.Reading.{IsExponentSignTaken, BeginsWithNoDigit, IsWithin, exponent_of, BeginsWithNoZero, EndsWithNoZero}
 pub use Rattle.ijson_number.specs.private.Reading.{IsSignTaken, IsTail}
-pub use Rattle.ijson_number.specs.private.Significand.{significand_number, canonical_number, significand_of, IsFewFraction, IsFront, IsMantissa}
+pub use Rattle.ijson_number.specs.private.Significand.{significand_number, canonical_number, significand_of, IsFewFraction, IsFront, IsMantissa, HasNoPoint}
 pub use Rattle.ijson_number.specs.private.Significand.{IsPower, IsPowerSmall, HasFewerTens, IsSmall}
 pub use Rattle.ijson_number.specs.private.Stored.{stored_decimal, long_form, short_form, stored_form}
 pub use Rattle.ijson_number.specs.private.StoredNumber.{IsStored}

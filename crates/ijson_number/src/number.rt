@@ -48,7 +48,7 @@ impl From<AllocError> for ParseNumberError {
 impl INumber {
     ghost use Rattle.std.specs.Prelude.{◌+◌, ◌≤◌, List, ℕ, drop, length, take, IfNone, IfSome, OnErr};
     ghost use Rattle.ijson_number.specs.Grammar.{Parts};
-    ghost use Rattle.ijson_number.specs.CommonFront.{EndsToken, IsCommonFront};
+    ghost use Rattle.ijson_number.specs.CommonFront.{EndsDigits, EndsToken, IsCommonFront};
     ghost use Rattle.ijson_number.specs.Refused.{IsRefused};
     ghost use Rattle.ijson_number.specs.declared.number.ParseNumberError.TheVariants.{Memory};
 
@@ -90,7 +90,8 @@ impl INumber {
     /// Parses a leading number in one pass; returns it and its length in bytes.
     ///
     /// The number has at most 19 digits, not counting a single zero before the point, and no exponent or one of at most four digits. No
-    /// digit or letter follows it. For `1.5.5` it is `1.5`; `1.` has none. For any other text this may return `None`; call `from_str` then.
+    /// digit or letter follows it, nor a point if it has neither point nor exponent. For `1.5.5` it is `1.5`; `1.` and `1.x` have none. For
+    /// any other text this may return `None`; call `from_str` then.
     ///
     /// # Errors
     ///
@@ -100,6 +101,7 @@ impl INumber {
         ensures found { IfOk result (λ found. IfSome found (λ f.
             (f.1 ≤ length text.now) × Spells (take f.1 text.now) f.0.decimal)) }
         ensures ends { IfOk result (λ found. IfSome found (λ f. EndsToken (drop f.1 text.now))) }
+        ensures point { IfOk result (λ found. IfSome found (λ f. EndsDigits f.0.decimal.point (drop f.1 text.now))) }
         ensures common { IfOk result (λ found. IfSome found (λ f. (p : Parts) (rest : List ℕ)
             → IsCommonFront text.now p rest → f.1 + length rest ≡ length text.now)) }
         ensures none { IfOk result (λ found. IfNone found ((p : Parts) (rest : List ℕ)

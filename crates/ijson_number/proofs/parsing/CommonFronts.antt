@@ -3,7 +3,7 @@ use Rattle.ijson_number.proofs.Common.{◌≡◌, ◌≢◌, ◌⊎◌, ℕ, ◌
 use Rattle.ijson_number.proofs.Common.{inr, arith, nat_tests, take-append-drop, AllDigits, IsDigits, IsFraction, Parts, value, EndsDigits, EndsToken}
 use Rattle.ijson_number.proofs.Common.{IsCommonFront, cases_lt, IsFewFraction, BeginsWithNoDigit, IsSignTaken, get_or, append_assoc, length-take-le}
 use Rattle.ijson_number.proofs.Common.{IsExponentTail, IsFewDigits, IsFewExponent, IsFewSigned, IsExponentSignTaken, IsTaken, false, true, ℤ, nat_eq}
-use Rattle.ijson_number.proofs.Common.{not, take_rest, IsExponent, IsTail, IsSigned, signed}
+use Rattle.ijson_number.proofs.Common.{not, take_rest, IsExponent, IsTail, IsSigned, signed, HasNoPoint}
 use Rattle.ijson_number.proofs.parsing.DigitRuns.{sign_one, whole_all, sign_taken, one_run, IsDigits_all, IsDigits_nonempty, IsDigits_from}
 use Rattle.ijson_number.proofs.parsing.DigitRuns.{exponent_begins, no_exponent, digits_signed}
 use Rattle.std.proofs.lemmas.List.Prefix.{end_rest}
@@ -12,6 +12,11 @@ use Rattle.std.proofs.lemmas.List.Prefix.{end_rest}
 pub none_begins : (rest : List ℕ) → EndsToken rest → BeginsWithNoDigit rest
 none_begins [] h = tt
 none_begins (b ∷ rest) h = λ d. grind (arith, nat_tests, d.0, d.1)
+
+-- a text that ends a token and begins with no point ends the digits
+pub digits_end_of : (point : Bool) (rest : List ℕ) → EndsToken rest → HasNoPoint point rest → EndsDigits point rest
+digits_end_of point [] h n = tt
+digits_end_of point (b ∷ rest) h n = (none_begins (b ∷ rest) h, n)
 
 ends_begins : (point : Bool) (rest : List ℕ) → EndsDigits point rest → BeginsWithNoDigit rest
 ends_begins point [] h = tt

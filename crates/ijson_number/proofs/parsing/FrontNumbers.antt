@@ -4,14 +4,14 @@ use Rattle.ijson_number.proofs.Common.{refl, sym, subst, ap, append_assoc, arith
 use Rattle.ijson_number.proofs.Common.{length-take-le, take-append-drop, AllDigits, IsExponent, IsFraction, IsSpelled, Parts, Spells, value, IsNum}
 use Rattle.ijson_number.proofs.Common.{signed, EndsToken, stripped_number, drop-append-add, take-append_seam, IsFront, IsMantissa, IsPower}
 use Rattle.ijson_number.proofs.Common.{IsPowerSmall, significand_number, significand_of, IsExponentSignTaken, IsTaken, power_le, FitsSigned}
-use Rattle.ijson_number.proofs.Common.{to_z-of_z, to_z, of_z, cases_eq, ◌≢◌, ◌≤ℤ◌, inl, inr}
+use Rattle.ijson_number.proofs.Common.{to_z-of_z, to_z, of_z, cases_eq, ◌≢◌, ◌≤ℤ◌, inl, inr, HasNoPoint}
 use Rattle.std.proofs.Math.Bool.{or-false, or-true}
 use Rattle.ijson_number.specs.declared.fast_reader.Front.{Front}
 use Rattle.ijson_number.specs.declared.significand.Significand.{Significand}
 use Rattle.ijson_number.proofs.storing.Significands.{parts_number, zero_number}
 use Rattle.ijson_number.proofs.parsing.DigitValues.{value_small}
 use Rattle.ijson_number.proofs.parsing.DigitRuns.{IsDigits_from}
-use Rattle.ijson_number.proofs.parsing.CommonFronts.{behind_taken, sign_of}
+use Rattle.ijson_number.proofs.parsing.CommonFronts.{behind_taken, digits_end_of, sign_of}
 use Rattle.std.specs.Int.{Width}
 
 -- leading digits, with an exponent after them or none
@@ -81,12 +81,12 @@ module _ (text : List ℕ) (f : Front) (rest : List ℕ) (m : IsMantissa text f 
       (rw (taken count within) (subst (Spells (front ++ take count rest)) same n.0), subst IsNum same n.1)
 
   -- a number that they spell, which ends the token
-  front_of : (s : Significand) (count : ℕ) → count ≤ length rest → EndsToken (drop count rest)
+  front_of : (s : Significand) (count : ℕ) → count ≤ length rest → EndsToken (drop count rest) → HasNoPoint s.point (drop count rest)
       → Spells (take (f.length + count) text) (significand_number s) × IsNum (significand_number s)
       → s.magnitude ≡ f.significand.magnitude → (neg_ℤ (pos 10050) ≤ℤ s.exponent) × (s.exponent ≤ℤ pos 10050)
       → (s.point ≡ false → s.exponent ≡ pos 0) → (s.magnitude ≡ 0 → neg_ℤ (pos 19) ≤ℤ s.exponent)
       → IsFront text (record { significand = s; length = f.length + count })
-  front_of s count within ends n magnitude range integer zero =
+  front_of s count within ends no_point n magnitude range integer zero =
       let bound = m.small in
       record {
         within = omega (arith, whole_length);
@@ -100,6 +100,7 @@ module _ (text : List ℕ) (f : Front) (rest : List ℕ) (m : IsMantissa text f 
           num = n.1;
         };
         ends = rw (behind count) ends;
+        digits_end = rw (behind count) (digits_end_of s.point (drop count rest) ends no_point);
       }
 
 -- `e`, a sign or none and digits are an exponent
@@ -173,8 +174,12 @@ front_with text rest f m power exponent count is zero others =
       | inr some ↦ (let e = others some in (omega (arith, ints), omega (arith, ints)))
     ] in
     front_of text f rest m (significand_of s.negative s.magnitude exponent true) count is.within is.ends
-    (subst (λ d. Spells (take (f.length + count) text) d × IsNum d) same n) refl range (λ h. absurd (cc))
+    (has_point (drop count rest)) (subst (λ d. Spells (take (f.length + count) text) d × IsNum d) same n) refl range (λ h. absurd (cc))
     (λ none. let e = zero none in omega (arith, ints))
+  where
+    has_point : (after : List ℕ) → HasNoPoint true after
+    has_point [] = tt
+    has_point (b ∷ bs) = λ h. absurd (cc)
 
 -- and it is one without an exponent
 pub front_alone : (text rest : List ℕ) (f : Front) → IsMantissa text f rest → EndsToken rest → IsFront text f
@@ -186,7 +191,7 @@ front_alone text rest f m ends =
     let zero : s.exponent ≡ s.exponent +ℤ pos 0 = omega (arith, ints) in
     let n = spelled_at text f rest m s (pos 0) false 0 (omega arith) (refl, refl) (omega (arith, ints), omega (arith, ints)) refl refl zero
     (sym (or-false _)) in
-    rw (← none) (front_of text f rest m s 0 (omega arith) ends n refl (omega (arith, ints), omega (arith, ints))
+    rw (← none) (front_of text f rest m s 0 (omega arith) ends m.no_point n refl (omega (arith, ints), omega (arith, ints))
     (integer s.point m.fraction_text m.fraction m.fraction_is m.exponent_is) (λ _. omega (arith, ints)))
   where
     integer : (point : Bool) (text digits : List ℕ) → IsFraction text digits point → {e : ℤ} → e ≡ neg_ℤ (pos (length digits)) → point ≡ false → e ≡ pos 0

@@ -1,5 +1,5 @@
 -- A sign, a magnitude, an exponent and a fraction point, as the fast reader returns them.
-use Rattle.std.specs.Prelude.{◌≡◌, ◌⊎◌, ℕ, ◌+◌, ◌^◌, ◌<◌, ◌≤◌, Bool, List, ◌++◌, drop, length, nat_lt, take, true, false}
+use Rattle.std.specs.Prelude.{◌≡◌, ◌≢◌, ◌⊎◌, ℕ, ◌+◌, ◌^◌, ◌<◌, ◌≤◌, Bool, List, [], ◌∷◌, ◌++◌, drop, length, nat_lt, take, true, false}
 use Rattle.std.specs.Prelude.{ℤ, pos, negsuc, neg_ℤ, ◌*◌, ◌+ℤ◌, ◌≤ℤ◌}
 use Rattle.std.specs.Int.Digits.{number_from_digits_after}
 use Rattle.ijson_number.specs.CommonFront.{EndsDigits, EndsToken}
@@ -30,6 +30,11 @@ pub record HasFewerTens (s t : Significand) : Type 0 where
   pub magnitude : s.magnitude ≡ t.magnitude * 10 ^ count
   pub exponent : t.exponent ≡ s.exponent +ℤ pos count
 
+-- the text does not begin with a point, if none was written before it
+abbrev pub HasNoPoint : (has_point : Bool) → List ℕ → Type 0
+HasNoPoint has_point [] = Unit {0}
+HasNoPoint has_point (b ∷ bs) = has_point ≡ false → b ≢ 46
+
 -- a fraction or none, the text after it, and the number with its digits appended
 pub record IsFractionTaken (number : ℕ) (text : List ℕ) (longer scale : ℕ) (rest : List ℕ) : Type 0 where
   pub front : List ℕ
@@ -40,6 +45,7 @@ pub record IsFractionTaken (number : ℕ) (text : List ℕ) (longer scale : ℕ)
   pub value : longer ≡ number_from_digits_after 10 number (digits_from_text digits)
   pub few : scale ≤ 19
   pub small : longer < 10 ^ 19
+  pub no_point : HasNoPoint (nat_lt 0 scale) rest
 
 -- a fraction of few digits or none after a number of `count` digits, and the text after it
 pub record IsFewFraction (number count : ℕ) (text front rest : List ℕ) : Type 0 where
@@ -65,6 +71,7 @@ pub record IsMantissa (text : List ℕ) (f : Front) (rest : List ℕ) : Type 0 w
   pub magnitude_is : f.significand.magnitude ≡ value (whole ++ fraction)
   pub few : length fraction ≤ 19
   pub small : f.significand.magnitude < 10 ^ 19
+  pub no_point : HasNoPoint f.significand.point rest
 
 -- an exponent of at most four digits
 abbrev pub IsPowerSmall : ℤ → Type 0
@@ -93,6 +100,7 @@ pub record IsFront (text : List ℕ) (f : Front) : Type 0 where
   pub spelled : Spells (take f.length text) (significand_number f.significand)
   pub small : IsSmall f.significand
   pub ends : EndsToken (drop f.length text)
+  pub digits_end : EndsDigits f.significand.point (drop f.length text)
 
 -- at most seven fraction digits and a magnitude below 2 ^ 55
 abbrev pub IsCommonWord : Significand → Type 0

@@ -358,7 +358,7 @@ fn refusals(rt: HostRuntime) {
 }
 
 /// Texts, and the index of the first fault of each, if it has one.
-static FAULTS: [(&str, Option<usize>); 14] = [
+static FAULTS: [(&str, Option<usize>); 17] = [
     ("", Some(0)),
     ("+1", Some(0)),
     ("-", Some(1)),
@@ -368,6 +368,9 @@ static FAULTS: [(&str, Option<usize>); 14] = [
     ("1.", Some(2)),
     ("1.x", Some(2)),
     ("1e+", Some(3)),
+    ("1.5e+", Some(5)),
+    ("1.5E-", Some(5)),
+    ("0001", Some(1)),
     ("1e5e", Some(3)),
     ("1.5.5", Some(3)),
     ("1e1073741825-", Some(12)),
@@ -383,7 +386,7 @@ fn faults(rt: HostRuntime) {
 }
 
 /// Texts, and the number of leading bytes read of each.
-static FRONTS: [(&str, Option<usize>); 12] = [
+static FRONTS: [(&str, Option<usize>); 16] = [
     ("12", Some(2)),
     ("1234567890123456789,", Some(19)),
     ("-0.0012345678901234567,", Some(22)),
@@ -391,6 +394,10 @@ static FRONTS: [(&str, Option<usize>); 12] = [
     ("-1.50]", Some(5)),
     ("1.5.5", Some(3)),
     ("1E-0007,2", Some(7)),
+    ("1e5.5", Some(3)),
+    ("1.x", None),
+    ("1.1234567890123456789", None),
+    ("12345678901234567890.5", None),
     ("12e5x", None),
     ("1e12345", None),
     ("1e+", None),

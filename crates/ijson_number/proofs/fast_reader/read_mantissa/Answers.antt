@@ -47,6 +47,7 @@ returns-clause-found c =
       magnitude_is = rw made at tail.value ∙ joined_value whole tail.digits;
       few = omega (arith, tail.count, few);
       small = tail.small;
+      no_point = tail.no_point;
     }
 
 -- the whole part consists of the leading digits,

@@ -1,5 +1,6 @@
-use Rattle.ijson_number.proofs.Common.{◌≡◌, ◌≢◌, ◌+◌, ◌-◌, ◌*◌, ◌^◌, ◌<◌, ◌≤◌, List, ℕ, [], ◌∷◌, ◌++◌, length, take, drop, refl, sym, ap, ◌∙◌, arith}
+use Rattle.ijson_number.proofs.Common.{◌≡◌, ◌≢◌, get_or, Bool, true, HasNoPoint, ◌+◌, ◌-◌, ◌*◌, ◌^◌, ◌<◌, ◌≤◌, List, ℕ, [], ◌∷◌, ◌++◌, length, take, drop, refl, sym, ap, ◌∙◌, arith}
 use Rattle.ijson_number.proofs.Common.{number_from_digits_after, nat_tests, take-append-drop, AllDigits, BeginsWithNoDigit, digits_from_text}
+use Rattle.std.specs.Bool.{nat_lt}
 use Rattle.ijson_number.proofs.parsing.DigitValues.{digits_small}
 use Rattle.ijson_number.proofs.storing.Significands.{no_more}
 use Rattle.ijson_number.proofs.parsing.CommonFronts.{point_tail, point_first}
@@ -46,6 +47,14 @@ take_lanes-longer-requires c =
     let left = c.places_left.ensures in
     room c.args.number c.args.count c.places_left.result left.zero left.others c.requires.room
 
+no_point_of : (bytes : List ℕ) → (0 < length bytes → get_or bytes 0 0 ≢ 46) → HasNoPoint (nat_lt 0 0) bytes
+no_point_of [] h = tt
+no_point_of (b ∷ bs) h = λ _. h (omega arith)
+
+has_point : {point : Bool} (rest : List ℕ) → point ≡ true → HasNoPoint point rest
+has_point [] h = tt
+has_point (b ∷ bs) h = λ none. absurd (cc)
+
 pub returns-in_default-clause-tail : goal.returns-in_default-clause-tail
 returns-in_default-clause-tail c =
     let more = no_more (c.args.number + 1) (19 - c.args.count) in
@@ -58,6 +67,7 @@ returns-in_default-clause-tail c =
       value = refl;
       few = omega arith;
       small = omega (arith, more, c.requires.room);
+      no_point = no_point_of c.args.bytes.now (grind arith);
     }
 
 pub returns-clause-tail : goal.returns-clause-tail
@@ -73,6 +83,7 @@ returns-clause-tail c =
       fraction = (refl, IsDigits_from digits (omega (arith, taken.count)) taken.all_digits, refl, grind (arith, nat_tests));
       count = taken.count;
       value = taken.value;
+      no_point = has_point c.split_at.result.1.now (grind (arith, nat_tests));
       few = omega
           (arith, taken.count, taken.few, most_places c.args.number c.args.count c.places_left.result left.zero left.others);
       small = rw taken.value

@@ -1,4 +1,4 @@
-use Rattle.ijson_number.proofs.Common.{sym, subst, take, Spells, IsFront, significand_number}
+use Rattle.ijson_number.proofs.Common.{sym, subst, take, drop, Decimal, EndsDigits, Spells, IsFront, significand_number}
 use Rattle.ijson_number.proofs.storing.FormNumbers.{form_has, stored_num, stored_form_of}
 use Rattle.ijson_number.proofs.repr.INumber.at_front.Goals as goal
 
@@ -18,6 +18,12 @@ returns-clause-found c =
     let f : IsFront c.args.text.now c.in-Some.front = rw c.as_bytes.ensures.value at c.in-Some.ensures.found in
     let number = form_has (significand_number c.in-Some.front.significand) _ f.small.num.plain c.in_ok-stored.ensures.form in
     (f.within, subst (Spells (take c.in-Some.front.length c.args.text.now)) (sym number) f.spelled)
+
+pub returns-clause-point : goal.returns-clause-point
+returns-clause-point c =
+    let f : IsFront c.args.text.now c.in-Some.front = rw c.as_bytes.ensures.value at c.in-Some.ensures.found in
+    let number = form_has (significand_number c.in-Some.front.significand) _ f.small.num.plain c.in_ok-stored.ensures.form in
+    subst (λ (n : Decimal). EndsDigits n.point (drop c.in-Some.front.length c.args.text.now)) (sym number) f.digits_end
 
 pub returns-clause-common : goal.returns-clause-common
 returns-clause-common c = λ p rest f. rw c.as_bytes.ensures.value at c.in-Some.ensures.common p rest f
