@@ -6,7 +6,8 @@ use std::process::Abort;
 
 /// Compares the words of `write_u64` with the wanted ones.
 ///
-/// The content of a cell is no part of a value, so contracts do not see it change.
+/// By default `write_i64` calls `write_u64`, and every other call ends in `write`. The content of a cell is no part of a value, so
+/// contracts do not see it change.
 #[derive(Drop)]
 struct Comparing<'a> {
     wanted: &'a [u64],
@@ -33,6 +34,10 @@ impl Hasher for Comparing<'_> {
         self.count
             .set(if is_wanted { count + 1 } else { usize::MAX });
     }
+
+    fn write_i64(&mut self, _word: i64) {
+        self.count.set(usize::MAX);
+    }
 }
 
 /// Asserts that `value` feeds these words, each by `write_u64`, and nothing else.
@@ -54,8 +59,13 @@ const WORDS_OF_DIGITS: [u64; 24] = [
     2, 1, 2147483648, 20, 1, 8, 4, 4, 6, 7, 4, 4, 0, 7, 3, 7, 0, 9, 5, 5, 1, 6, 1, 6,
 ];
 
+const WORDS_OF_THIRTY: [u64; 34] = [
+    2, 2, 2147483648, 30, 1, 2, 3, 4, 5, 6, 7, 8, 9, 0, 1, 2, 3, 4, 5, 6, 7, 8, 9, 0, 1, 2, 3, 4,
+    5, 6, 7, 8, 9, 1,
+];
+
 /// Numbers, and the words that each feeds a hasher.
-static NUMBERS: [(&str, &[u64]); 11] = [
+static NUMBERS: [(&str, &[u64]); 13] = [
     ("2", &[2, 1, 2147483648, 1, 2]),
     ("2.0", &[2, 1, 2147483648, 1, 2]),
     ("100", &[2, 1, 2147483650, 1, 1]),
@@ -65,6 +75,8 @@ static NUMBERS: [(&str, &[u64]); 11] = [
     ("36028797018963968.0", &WORDS_OF_I64),
     ("18446744073709551616", &WORDS_OF_DIGITS),
     ("18446744073709551616.0", &WORDS_OF_DIGITS),
+    ("-123456789012345678901234567891", &WORDS_OF_THIRTY),
+    ("-123456789012345678901234567891.0", &WORDS_OF_THIRTY),
     ("-0.5", &[2, 2, 2147483647, 1, 5]),
     ("-0.0", &[2, 0]),
 ];

@@ -186,9 +186,28 @@ fn keeps_each_fraction(rt: &impl Abort, alloc: Global, sign: &str, digits: &str)
 }
 
 /// Exponents of numbers that are written with one.
-static POWERS: [i32; 17] = [
-    -32789, -32769, -32768, -32767, -101, -100, -99, -11, -10, -9, 41, 99, 100, 101, 32766, 32767,
+static POWERS: [i32; 21] = [
+    -500_000_000,
+    -32789,
+    -32769,
+    -32768,
+    -32767,
+    -101,
+    -100,
+    -99,
+    -65,
+    -52,
+    -11,
+    -10,
+    -9,
+    41,
+    99,
+    100,
+    101,
+    32766,
+    32767,
     32768,
+    500_000_000,
 ];
 
 /// Digits with the point after the first of them, and each of these exponents.
@@ -258,6 +277,16 @@ fn debug_texts(rt: HostRuntime) {
     debugs(&rt, rt.alloc(), &looks, "Looks { seen: 42 }");
     debugs(&rt, rt.alloc(), &ParseNumberError::Invalid, "Invalid");
     debugs(&rt, rt.alloc(), &ParseNumberError::Memory, "Memory");
+}
+
+/// The text of a number is exact, so a width adds nothing.
+#[test]
+fn a_width_adds_no_spaces(rt: HostRuntime) {
+    let number = number(&rt, rt.alloc(), "-1.50");
+    let text = format!(in rt.alloc(); "{number:>10}{number:<10?}").expect(&rt, "a text");
+    assert!(rt; text.as_str() == "-1.5-1.5");
+    drop(text);
+    drop(number);
 }
 
 #[test]
@@ -476,10 +505,11 @@ fn signed_texts(rt: HostRuntime) {
 }
 
 /// Texts, and the number of each as a `u64` and as a `u32`.
-static UNSIGNED: [(&str, Option<u64>, Option<u32>); 4] = [
+static UNSIGNED: [(&str, Option<u64>, Option<u32>); 5] = [
     ("12345678901234567890.0", Some(12345678901234567890), None),
     ("1e19", Some(10000000000000000000), None),
     ("-0.0", Some(0), Some(0)),
+    ("-1", None, None),
     ("1e1073741824", None, None),
 ];
 
@@ -599,7 +629,7 @@ fn order_by_integers(rt: HostRuntime) {
 }
 
 /// Two texts, their order, and the number of digits read for it.
-static COMPARED: [(&str, &str, Ordering, u128); 8] = [
+static COMPARED: [(&str, &str, Ordering, u128); 12] = [
     ("1e1073741824", "7", Ordering::Greater, 0),
     (
         "18446744073709551616",
@@ -611,6 +641,10 @@ static COMPARED: [(&str, &str, Ordering, u128); 8] = [
     ("100.0", "1e2", Ordering::Equal, 2),
     ("1.25", "1.35", Ordering::Less, 4),
     ("-3", "-4", Ordering::Greater, 2),
+    ("-1.25", "-1.35", Ordering::Greater, 4),
+    ("-12", "-12.5", Ordering::Greater, 4),
+    ("1e20", "100000000000000000001", Ordering::Less, 2),
+    ("-1e20", "-100000000000000000001", Ordering::Greater, 2),
     ("0", "0.0", Ordering::Equal, 0),
     ("0.5", "0.05", Ordering::Greater, 0),
 ];

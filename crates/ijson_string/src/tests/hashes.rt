@@ -6,7 +6,8 @@ use std::process::Abort;
 
 /// Compares the words of `write_u64` with the wanted ones.
 ///
-/// The content of a cell is no part of a value, so contracts do not see it change.
+/// By default `write_i64` calls `write_u64`, and every other call ends in `write`. The content of a cell is no part of a value, so
+/// contracts do not see it change.
 #[derive(Drop)]
 struct Comparing<'a> {
     wanted: &'a [u64],
@@ -33,6 +34,10 @@ impl Hasher for Comparing<'_> {
         self.count
             .set(if is_wanted { count + 1 } else { usize::MAX });
     }
+
+    fn write_i64(&mut self, _word: i64) {
+        self.count.set(usize::MAX);
+    }
 }
 
 /// Asserts that `value` feeds these words, each by `write_u64`, and nothing else.
@@ -46,11 +51,23 @@ fn feeds<T: Hash>(rt: &impl Abort, value: &T, wanted: &[u64]) {
     assert!(rt; count.get() == wanted.len());
 }
 
+const HUNDRED: &str =
+    "0123456789012345678901234567890123456789012345678901234567890123456789012345678901234567890123456789";
+
+const WORDS_OF_HUNDRED: [u64; 102] = [
+    3, 100, 48, 49, 50, 51, 52, 53, 54, 55, 56, 57, 48, 49, 50, 51, 52, 53, 54, 55, 56, 57, 48, 49,
+    50, 51, 52, 53, 54, 55, 56, 57, 48, 49, 50, 51, 52, 53, 54, 55, 56, 57, 48, 49, 50, 51, 52, 53,
+    54, 55, 56, 57, 48, 49, 50, 51, 52, 53, 54, 55, 56, 57, 48, 49, 50, 51, 52, 53, 54, 55, 56, 57,
+    48, 49, 50, 51, 52, 53, 54, 55, 56, 57, 48, 49, 50, 51, 52, 53, 54, 55, 56, 57, 48, 49, 50, 51,
+    52, 53, 54, 55, 56, 57,
+];
+
 /// Strings, and the words that each feeds a hasher.
-static TEXTS: [(&str, &[u64]); 4] = [
+static TEXTS: [(&str, &[u64]); 5] = [
     ("", &[3, 0]),
     ("hi", &[3, 2, 104, 105]),
     ("é", &[3, 2, 195, 169]),
+    (HUNDRED, &WORDS_OF_HUNDRED),
     ("eight888", &[3, 8, 101, 105, 103, 104, 116, 56, 56, 56]),
 ];
 

@@ -62,14 +62,14 @@ fn texts_of_each_length_are_shared_and_print(rt: HostRuntime) {
         .repeat(rt.alloc(), 100_000)
         .expect(&rt, "a text");
     let mut cache = empty_cache(rt.alloc());
-    for length in 0..161 {
+    for length in 0..201 {
         is_prefix(&rt, rt.alloc(), &mut cache, text.as_str(), length);
     }
-    assert!(rt; cache.len() == 153);
-    for length in [200, 41_000, 1_000_000] {
+    assert!(rt; cache.len() == 193);
+    for length in [41_000, 1_000_000] {
         is_prefix(&rt, rt.alloc(), &mut cache, text.as_str(), length);
     }
-    assert!(rt; cache.len() == 156);
+    assert!(rt; cache.len() == 195);
     drop(cache);
     drop(text);
 }
@@ -98,10 +98,14 @@ fn short_texts_are_padded_to_seven_bytes(rt: HostRuntime) {
 }
 
 /// Strings, and the output of `Debug`.
-static DEBUGGED: [(&str, &str); 4] = [
+static DEBUGGED: [(&str, &str); 5] = [
     ("", r#""""#),
     ("seven77", r#""seven77""#),
     ("a \"quote\" and \\", r#""a \"quote\" and \\""#),
+    (
+        "a long string of more than 71 bytes, which has a \"quote\" at its end, \"here\"",
+        r#""a long string of more than 71 bytes, which has a \"quote\" at its end, \"here\"""#,
+    ),
     (
         "two\nlines, \u{e9} and \u{1}",
         "\"two\\nlines, \u{e9} and \\u{1}\"",
@@ -118,6 +122,7 @@ fn texts_compare_by_bytes(rt: HostRuntime) {
         let less = interned(&rt, &mut cache, pair[0]);
         let more = interned(&rt, &mut cache, pair[1]);
         assert!(rt; less.cmp(&more) == Ordering::Less);
+        assert!(rt; less.partial_cmp(&more) == Some(Ordering::Less));
         assert!(rt; more.cmp(&less) == Ordering::Greater);
         drop(less);
         drop(more);
@@ -142,6 +147,20 @@ fn texts_are_shown_with_escapes(rt: HostRuntime) {
     drop(cache);
 }
 
+/// Strings are padded to a width, like a `str`.
+#[test]
+fn a_width_adds_spaces(rt: HostRuntime) {
+    let mut cache = empty_cache(rt.alloc());
+    for (letters, want) in [("seven77", "   seven77"), ("eight888", "  eight888")] {
+        let text = interned(&rt, &mut cache, letters);
+        let printed = format!(in rt.alloc(); "{text:>10}").expect(&rt, "a text");
+        assert!(rt; printed.as_str() == want, "{printed}");
+        drop(printed);
+        drop(text);
+    }
+    drop(cache);
+}
+
 #[test]
 fn a_cache_is_shown_as_a_set(rt: HostRuntime) {
     let mut cache = empty_cache(rt.alloc());
@@ -150,6 +169,12 @@ fn a_cache_is_shown_as_a_set(rt: HostRuntime) {
         drop(interned(&rt, &mut cache, letters));
     }
     is_shown(&rt, rt.alloc(), &cache, r#"{"second here", "first there"}"#);
+    for letters in ["third \"place\" and a long string after it", "a fourth"] {
+        drop(interned(&rt, &mut cache, letters));
+    }
+    let want =
+        r#"{"second here", "first there", "third \"place\" and a long string after it", "a fourth"}"#;
+    is_shown(&rt, rt.alloc(), &cache, want);
     drop(cache);
 }
 

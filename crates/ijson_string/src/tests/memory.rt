@@ -5,22 +5,38 @@ use crate::IString;
 use std::alloc::Global;
 use std::process::Abort;
 
-/// Interns a long string and a short one, then interns and clones both `further` times and copies an empty one.
+/// A text with a prefix of each stored form.
+const LETTERS: &str =
+    "abcdefghijklmnopqrstuvwxyzabcdefghijklmnopqrstuvwxyzabcdefghijklmnopqrstuvwxyzab";
+
+/// A length of each stored form: inline; in one block of up to 23, 39, 55 and 71 bytes; in two blocks.
+static LENGTHS: [usize; 6] = [7, 8, 30, 45, 60, 80];
+
+/// Interns a string, then interns and clones it `further` times.
+fn intern_one_again(rt: &impl Abort, cache: &mut Cache, letters: &str, further: u32) {
+    let text = interned(rt, cache, letters);
+    for _ in 0..further {
+        let again = interned(rt, cache, letters);
+        let copy = text.clone().expect(rt, "a copy");
+        assert!(rt; again == text && copy.eq_str(letters));
+        drop(again);
+        drop(copy);
+    }
+    drop(text);
+}
+
+/// Interns a string of each stored form, and each `further` times; copies an empty one.
 fn intern_again_and_again(rt: &impl Abort, alloc: Global, further: u32) {
     let mut cache = empty_cache(alloc);
-    let long = interned(rt, &mut cache, "eight888");
-    let short = interned(rt, &mut cache, "seven77");
+    for &length in &LENGTHS {
+        let letters = LETTERS.get(..length).expect(rt, "a prefix");
+        intern_one_again(rt, &mut cache, letters, further);
+    }
     for _ in 0..further {
-        drop(interned(rt, &mut cache, "eight888"));
-        drop(interned(rt, &mut cache, "seven77"));
-        drop(long.clone().expect(rt, "a copy"));
-        drop(short.clone().expect(rt, "a copy"));
         let empty = IString::new();
         drop(empty.to_owned_string(alloc).expect(rt, "a text"));
         drop(empty);
     }
-    drop(short);
-    drop(long);
     drop(cache);
 }
 

@@ -24,26 +24,45 @@ fn are_in_order(less: &INumber, more: &INumber) -> bool {
         && hash_of(less) != hash_of(more)
 }
 
-/// Returns `true` if the representation is a list of digits with a fraction point, which is no `u64`.
+/// Returns `true` if no integer type has the value.
+fn is_no_integer(number: &INumber) -> bool {
+    let is_signed = number.to_i64().is_some()
+        || number.to_i32().is_some()
+        || number.to_isize().is_some();
+    let is_unsigned = number.to_u64().is_some()
+        || number.to_u32().is_some()
+        || number.to_usize().is_some();
+    !is_signed && !is_unsigned
+}
+
+/// Returns `true` if the representation is a list of digits with a fraction point, which is no integer.
 fn is_list_with_point(number: &INumber) -> bool {
     matches!(number.form(), Form::Digits { .. })
         && number.has_decimal_point()
-        && number.to_u64().is_none()
+        && is_no_integer(number)
 }
 
-fn numbers(rt: &impl Abort, alloc: Global, rounds: u32) {
-    let less = spelled(rt, alloc, "18446744073709551616");
-    let more = spelled(rt, alloc, "18446744073709551616.5");
+/// Two numbers of many digits, and two in a block each, in ascending order.
+static PAIRS: [(&str, &str); 2] = [
+    ("18446744073709551616", "18446744073709551616.5"),
+    ("441044444333116.125", "441044444333116.25"),
+];
+
+fn numbers(rt: &impl Abort, alloc: Global, less: &str, more: &str, rounds: u32) {
+    let less = spelled(rt, alloc, less);
+    let more = spelled(rt, alloc, more);
     for _ in 0..rounds {
         assert!(*rt; are_in_order(&less, &more) && is_list_with_point(&more));
-        assert!(*rt; first_fault("01") == Some(1));
+        assert!(*rt; is_no_integer(&less) && first_fault("01") == Some(1));
     }
     drop(less);
     drop(more);
 }
 
 fn all(rt: &impl Abort, alloc: Global, rounds: u32) {
-    numbers(rt, alloc, rounds);
+    for &(less, more) in &PAIRS {
+        numbers(rt, alloc, less, more, rounds);
+    }
     // The first allocation after the others.
     let last = spelled(rt, alloc, "18446744073709551616");
     assert!(*rt; last.to_u64().is_none());
