@@ -309,7 +309,7 @@ impl<'a> StrippedNumber<'a> {
 
     /// Returns `magnitude * 10^exponent`, negated if `negative`, by its canonical digits.
     ///
-    /// The digits are written to `buffer` as text first, four at a time.
+    /// The digits are written as text, four at a time, and their values to `buffer`.
     pub fn from_magnitude(
         negative: bool,
         magnitude: u64,
