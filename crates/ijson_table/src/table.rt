@@ -186,14 +186,20 @@ impl<V: Drop, H: KeyHash> Table<V, H> {
 
     /// Sets the capacity, to the length or to at least the old one.
     ///
-    /// If an allocation fails, nothing changes.
-    fn set_capacity(&mut self, capacity: usize) -> Result<(), AllocError>
+    /// It counts the steps of `slots_with_capacity`. If an allocation fails, nothing changes.
+    pub(crate) fn set_capacity(
+        &mut self,
+        capacity: usize,
+        looks: &mut Looks,
+    ) -> Result<(), AllocError>
         requires room { HasRoom (length self.old.store.pairs) capacity }
         requires grows { length self.old.store.pairs < capacity → self.old.store.capacity ≤ capacity }
-        ensures { IsResized self.old.store.pairs self.old.store.capacity capacity result
+        requires fits { looks.old + 2 ^ 72 < 2 ^ 128 }
+        ensures resized { IsResized self.old.store.pairs self.old.store.capacity capacity result
             self.new.store.pairs self.new.store.capacity }
+        ensures bounded { IsBuildBounded capacity (looks.new - looks.old) }
     {
-        let slots = self.slots_with_capacity(self.alloc, capacity, &mut Looks::new())?;
+        let slots = self.slots_with_capacity(self.alloc, capacity, looks)?;
         if let Err(refused) = set_room(self.alloc, &mut self.pairs, capacity) {
             drop(slots);
             return Err(refused);
@@ -461,7 +467,7 @@ impl<V: Drop, H: KeyHash> PairStore<V> for Table<V, H> {
     fn reserve(&mut self, additional: usize) -> Result<(), ReserveError> {
         let len = self.pairs.len();
         match grown_capacity(len, self.pairs.capacity(), additional)? {
-            Some(capacity) => Ok(self.set_capacity(capacity)?),
+            Some(capacity) => Ok(self.set_capacity(capacity, &mut Looks::new())?),
             None => Ok(()),
         }
     }
@@ -471,7 +477,7 @@ impl<V: Drop, H: KeyHash> PairStore<V> for Table<V, H> {
         if self.pairs.capacity() == len {
             return Ok(());
         }
-        Ok(self.set_capacity(len)?)
+        Ok(self.set_capacity(len, &mut Looks::new())?)
     }
 
     fn position(&self, key: &str) -> Option<usize> {

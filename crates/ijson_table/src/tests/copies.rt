@@ -21,7 +21,7 @@ fn listed(rt: &impl Abort, alloc: Global, count: u16) -> Vec<(IString, u16)> {
 }
 
 /// Returns a table of these entries, without spare capacity.
-fn table_of<H: KeyHash>(rt: &impl Abort, alloc: Global, count: u16) -> Table<u16, H> {
+pub fn table_of<H: KeyHash>(rt: &impl Abort, alloc: Global, count: u16) -> Table<u16, H> {
     Table::from_pairs(alloc, listed(rt, alloc, count)).expect(rt, "a table")
 }
 

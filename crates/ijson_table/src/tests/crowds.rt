@@ -136,9 +136,12 @@ fn is_made<H: KeyHash>(rt: &impl Abort, alloc: Global, chosen: Chosen, least: u1
     assert!(*rt; least < looks.count() && looks.count() <= most);
 }
 
+/// 13,560 was computed apart from this library, from the fixed hashes of the numbers.
+///
+/// Each takes the slots from its home slot to the empty one that is written last, and the one at which its probe ends counts twice.
 #[test]
 fn keys_that_nobody_chose_take_few_looks(rt: HostRuntime) {
-    is_made::<FixedHash>(&rt, rt.alloc(), Chosen::Digits, 2_048, 16_384);
+    is_made::<FixedHash>(&rt, rt.alloc(), Chosen::Digits, 13_559, 13_560);
 }
 
 /// One by one, each of these lists takes at least a million inspections and writes.

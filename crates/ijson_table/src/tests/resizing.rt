@@ -1,7 +1,8 @@
-//! Growing and shrinking tables whose keys have one or two home slots.
+//! Growing and shrinking tables whose keys have one or two home slots: their entries, and the number of steps.
 
-use super::{AlwaysZero, key, numbered};
+use super::{AlwaysZero, copies, key, numbered};
 use crate::{KeyHash, PairStore, Table};
+use ijson_number::Looks;
 use ijson_string::IString;
 use std::alloc::Global;
 use std::process::Abort;
@@ -91,4 +92,28 @@ fn growth_and_shrinking_keep_crowded_entries(rt: HostRuntime) {
     }
     // Of two homes, the second comes first among the new slots, so the entries are not in order.
     is_resized::<ByParity>(&rt, alloc, 2_000, 2_000);
+}
+
+/// The comparisons that sorting 4,000 entries in order takes: in each merge of two halves, one for each entry of the left half.
+const COMPARISONS: u128 = 23_728;
+
+/// Returns the number of steps of setting the capacity of a table whose keys all have one home slot.
+fn steps_of(rt: &impl Abort, table: &mut Table<u16, AlwaysZero>, capacity: usize) -> u128 {
+    let (len, room) = (table.len(), table.capacity());
+    assert!(*rt; len <= capacity && capacity <= 1 << 56 && (len == capacity || room <= capacity));
+    let mut looks = Looks::new();
+    table.set_capacity(capacity, &mut looks).expect(rt, "room");
+    looks.count()
+}
+
+/// One by one, 4,000 entries take 8,006,000 steps: each inspects the slots of those before it and an empty slot, and writes that.
+///
+/// Past 32 steps per entry of the new capacity, which 715 entries take in growth and 505 in shrinking, all are sorted.
+#[test]
+fn growth_and_shrinking_take_few_steps(rt: HostRuntime) {
+    let alloc = rt.alloc();
+    let mut table = copies::table_of(&rt, alloc, 4_000);
+    assert!(rt; steps_of(&rt, &mut table, 8_000) == 256_685 + COMPARISONS);
+    assert!(rt; steps_of(&rt, &mut table, 4_000) == 128_270 + COMPARISONS);
+    drop(table);
 }

@@ -90,18 +90,35 @@ fn commands_and_a_refusal_are_shown(rt: HostRuntime) {
     drop(back);
 }
 
-/// Asserts the debug output of a store with the entry of a and 0.
-fn is_shown_so<P: PairStore<u64> + Debug + Drop>(rt: &impl Abort, alloc: Global, want: &str) {
+/// Keys in an order that is not sorted, one of them boxed and with characters that are escaped.
+static SHOWN: [&str; 4] = ["c", "a \"long\" key\n", "", "b"];
+
+/// Asserts the debug output of a store of these keys, and its layout with a line for each entry.
+fn is_shown_so<P: PairStore<u64> + Debug + Drop>(rt: &impl Abort, alloc: Global) {
     let mut store = P::new(alloc);
-    insert_all(rt, alloc, &mut store, &["a"]);
-    is_shown(rt, alloc, &store, want);
+    is_shown(rt, alloc, &store, "{}");
+    insert_all(rt, alloc, &mut store, &SHOWN);
+    is_shown(
+        rt,
+        alloc,
+        &store,
+        r#"{"c": 0, "a \"long\" key\n": 1, "": 2, "b": 3}"#,
+    );
+    let lines = format!(in alloc; "{store:#?}").expect(rt, "a text");
+    assert!(*rt; lines.as_str() == LINES);
     drop(store);
 }
+
+const LINES: &str = r#"{
+    "c": 0,
+    "a \"long\" key\n": 1,
+    "": 2,
+    "b": 3,
+}"#;
 
 #[test]
 fn stores_are_shown(rt: HostRuntime) {
     let alloc = rt.alloc();
-    let want = "{\"a\": 0}";
-    is_shown_so::<LinearPairs<u64>>(&rt, alloc, want);
-    is_shown_so::<FixedTable<u64>>(&rt, alloc, want);
+    is_shown_so::<LinearPairs<u64>>(&rt, alloc);
+    is_shown_so::<FixedTable<u64>>(&rt, alloc);
 }

@@ -1,7 +1,7 @@
 //! Tables checked slot by slot, and their numbers of inspections.
 
 use super::Step::{Clear, Find, Put, Remove, Reserve, ShiftRemove, Shrink};
-use super::{AlwaysZero, ByLength, Step, key, replies_so};
+use super::{AlwaysZero, ByLength, Step, key, numbered, replies_so};
 use crate::{FixedHash, FixedTable, KeyHash, PairStore, Places, Seen, Table, locate};
 use ijson_number::Looks;
 use std::alloc::Global;
@@ -206,6 +206,32 @@ fn full_to_the_last_slot(rt: HostRuntime) {
     assert!(rt; finds(&table, "z", None, 3));
     follows(&rt, alloc, &mut table, &TWO_OF_THREE);
     drop(table);
+}
+
+/// Inserts the keys of the numbers below `count`.
+fn insert_numbered(rt: &impl Abort, alloc: Global, table: &mut Table<u64, AlwaysZero>, count: u16) {
+    for number in 0..count {
+        let before = table.insert(numbered(rt, alloc, number), u64::from(number));
+        assert!(*rt; before.expect(rt, "room").is_none());
+    }
+}
+
+/// The lookup of a key inspects the slots of the keys inserted before it, and its own; that of a missing key, one slot more than all.
+#[test]
+fn lookups_count_each_slot(rt: HostRuntime) {
+    let alloc = rt.alloc();
+    for count in [20u16, 200] {
+        let mut table = roomy(&rt, alloc, usize::from(count));
+        insert_numbered(&rt, alloc, &mut table, count);
+        for number in 0..count {
+            let key = numbered(&rt, alloc, number);
+            let looks = u128::from(number) + 1;
+            assert!(rt; finds(&table, key.as_str(), Some(usize::from(number)), looks));
+            drop(key);
+        }
+        assert!(rt; finds(&table, "z", None, u128::from(count) + 1));
+        drop(table);
+    }
 }
 
 /// The home slots of a, b, c and d are 2, 3, 4 and 0 of 5.
