@@ -65,6 +65,7 @@ impl<'a, P: Places> ProbeTarget for KeyProbe<'a, P> {
 
     ghost seeks = { λ s. is_key (P.keys s.table.now) s.key.now };
 
+    #[tactic(auto, using(crate::proofs::probing::KeyTests::sees_looks))]
     fn look(&self, slot: usize, looks: &mut Looks) -> Seen {
         self.table.look(slot, self.key, looks)
     }

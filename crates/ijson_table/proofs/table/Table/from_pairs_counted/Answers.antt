@@ -15,19 +15,13 @@ within g c =
     let len : c.len.result ≡ length c.args.pairs.items = c.len.ensures ∙ c.args.pairs.ok.0 in
     (c.in_ok-capacity.ensures.0 ∙ len, subst (λ n. n ≤ capacity_limit) len c.in_ok-capacity.ensures.1)
 
--- the pairs that are kept, and those that are left after them
-remaining : (g : Over) (c : After-remove_range g) → c.remove_range.new.list.items
+-- if those that are kept are followed by those that are left, they give the same as all when inserted in order
+all_put : (g : Over) (c : After-remove_range g) → c.remove_range.new.list.items
     ≡ take c.put_in_place-kept.result.0 c.put_in_place-kept.new.pairs ++ drop c.put_in_place-kept.result.1 c.put_in_place-kept.new.pairs
-remaining g c =
-    let same = with_items_is c.tighten.new.list c.put_in_place-kept.new.pairs
-    (omega (arith, c.put_in_place-kept.auto.pairs, c.deref_mut.ensures.len)) in
-    cc c.remove_range.ensures.items
-
--- inserted in order, they give the same as all
-all_put : (g : Over) (c : After-remove_range g) → put_each [] c.remove_range.new.list.items ≡ put_each [] c.args.pairs.items
-all_put g c =
+    → put_each [] c.remove_range.new.list.items ≡ put_each [] c.args.pairs.items
+all_put g c remaining =
     let kept = take c.put_in_place-kept.result.0 c.put_in_place-kept.new.pairs in
-    ap (put_each []) (remaining g c) ∙ (put_each-behind kept (drop c.put_in_place-kept.result.1 c.put_in_place-kept.new.pairs)
+    ap (put_each []) remaining ∙ (put_each-behind kept (drop c.put_in_place-kept.result.1 c.put_in_place-kept.new.pairs)
     c.put_in_place-kept.ensures.placed.distinct ∙ (c.put_in_place-kept.ensures.pairs
     ∙ ap (put_each []) (c.deref_mut.ensures.value ∙ c.tighten.ensures.items)))
 
@@ -47,5 +41,8 @@ all_read g c exactly is =
     ))) ∙ append-nil kept)
 
 pub returns-then-read-capacity-clause-pairs : goal.returns-then-read-capacity-clause-pairs
-returns-then-read-capacity-clause-pairs g c = c.in_ok-from_pairs_sorted.ensures.pairs
-    ∙ all_put g (goal.at.returns-then-read-capacity-clause-pairs g c).After-remove_range
+returns-then-read-capacity-clause-pairs g c =
+    let same = with_items_is c.tighten.new.list c.put_in_place-kept.new.pairs
+    (omega (arith, c.put_in_place-kept.auto.pairs, c.deref_mut.ensures.len)) in
+    c.in_ok-from_pairs_sorted.ensures.pairs
+    ∙ all_put g (goal.at.returns-then-read-capacity-clause-pairs g c).After-remove_range (cc c.remove_range.ensures.items)

@@ -5,10 +5,11 @@ use Rattle.ijson_table.proofs.pairs.Shown.{pairs_shown}
 use Rattle.ijson_table.proofs.table.Table.slots_with_capacity.Goals.{After-fill_sorted}
 use Rattle.ijson_table.proofs.table.Table.slots_with_capacity.Goals as goal
 
--- the inspections of insertion up to the bound, and of sorting
+-- the inspections of sorting, after those of insertion up to the bound
 few : (g : _) (c : After-fill_sorted g) (k : ℕ) → c.args.capacity ≤ 2 ^ k
+    → c.add_new_keys-placed.new.steps ≤ c.args.capacity * looks_a_pair
     → c.fill_sorted.new.looks - c.args.looks.now ≤ c.args.capacity * (looks_a_pair + 2 * k)
-few g c k fits =
+few g c k fits inserted =
     let within : length c.deref-2.result.now ≤ c.args.capacity =
     omega (arith, ap length (c.deref-2.ensures.value ∙ pairs_shown c.self.view_is), c.requires.room.within) in
     omega (
@@ -16,13 +17,13 @@ few g c k fits =
       c.fill_sorted.ensures.bounded k (omega (arith, within, fits)),
       mul-le-mul_right k within,
       c.add.ensures,
-      c.add_new_keys-placed.ensures.steps,
-      c.in_ok-slots.ensures.count,
-      c.slots_for-count.ensures,
+      inserted,
     )
 
 pub returns-in-Err-clause-bounded : goal.returns-in-Err-clause-bounded
-returns-in-Err-clause-bounded g c = few g (goal.at.returns-in-Err-clause-bounded g c).After-fill_sorted
+returns-in-Err-clause-bounded g c k fits = few g (goal.at.returns-in-Err-clause-bounded g c).After-fill_sorted k fits
+    (omega (arith, c.add_new_keys-placed.ensures.steps, c.in_ok-slots.ensures.count, c.slots_for-count.ensures))
 
 pub returns-clause-bounded : goal.returns-clause-bounded
-returns-clause-bounded g c = few g (goal.at.returns-clause-bounded g c).After-fill_sorted
+returns-clause-bounded g c k fits = few g (goal.at.returns-clause-bounded g c).After-fill_sorted k fits
+    (omega (arith, c.add_new_keys-placed.ensures.steps, c.in_ok-slots.ensures.count, c.slots_for-count.ensures))
