@@ -70,8 +70,8 @@ fn hash_pairs<H: Hasher>(pairs: &[(IString, IValue)], state: &mut H)
 
 /// Equal values feed the same words, each by one `write_u64`.
 ///
-/// An object feeds its length and one word that does not depend on the order of its entries. It takes time linear in the value and does not
-/// allocate.
+/// An object feeds 5, its length, and one word that does not depend on the order of its entries. It takes time linear in the value and does
+/// not allocate.
 impl Hash for IValue {
     ghost hash_input = { λ v. flat_map fed.u64 (words v.tree) };
 

@@ -15,8 +15,8 @@ impl IObject {
 
     /// Creates an object of `pairs`, which have the keys of this one in the same order.
     ///
-    /// No key is hashed if this object has no spare capacity or more than 127 entries. The capacity of the copy is its length, and an empty
-    /// one does not allocate.
+    /// The capacity of the copy is its length, and an empty one does not allocate. No key is hashed if this object has no spare capacity;
+    /// otherwise each key is hashed once, or twice if many keys collide.
     pub(crate) fn with_same_keys(
         &self,
         pairs: Vec<(IString, IValue)>,

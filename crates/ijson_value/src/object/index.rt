@@ -112,7 +112,7 @@ impl<T: ObjectIndex> ObjectIndex for &T {}
 impl IObject {
     /// Returns the value of a key, or `None` if it does not exist.
     ///
-    /// The key is hashed once and compared with keys of its home slot.
+    /// The key is hashed once, and compared with each key on its probe whose kept part of the hash is equal.
     pub fn get<I: ObjectIndex>(&self, index: I) -> Option<&IValue>
         ensures { option_copied result ≡ lookup (I.Sealed.key index) self.now.pairs }
     {
