@@ -27,6 +27,7 @@ macro_rules! granted {
 mod arrays;
 mod built;
 mod given_back;
+mod hashes;
 mod objects;
 mod refusals;
 mod values;

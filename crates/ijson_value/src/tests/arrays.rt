@@ -197,7 +197,9 @@ static GIVEN: [(usize, Option<u8>); 5] = [
 #[test]
 fn iterators(rt: HostRuntime) {
     let alloc = rt.alloc();
-    let given = spelled(&rt, alloc, "nf").into_iter();
+    let mut given = spelled(&rt, alloc, "tnf").into_iter();
+    is_shown(&rt, alloc, &given, "IntoIter([true, null, false])");
+    assert!(rt; is_item(given.next(), Some(b't')));
     is_shown(&rt, alloc, &given, "IntoIter([null, false])");
     drop(given);
     let mut none = IArray::new(alloc).into_iter();

@@ -7,13 +7,14 @@ ghost use Rattle.ijson_value.specs.Values.{boolean_value};
 
 use super::built::number_spelled;
 use super::{empty_cache, insert_new, is_shown, key, number_in, number_of, of_number, set};
-use crate::object::{Entry, IObject, RefusedReplacement};
+use crate::object::{Entry, IObject, RefusedPairs, RefusedReplacement};
 use crate::value::IValue;
 use ijson_string::IString;
 use ijson_table::ReserveError;
 use indexmap::IndexMap;
 use std::alloc::Global;
 use std::collections::{BTreeMap, HashMap};
+use std::fmt::{Debug, Display};
 use std::process::Abort;
 
 const ABCD: &[&str] = &["a", "b", "c", "d"];
@@ -283,6 +284,9 @@ fn room(rt: HostRuntime) {
     assert!(rt; object.is_empty() && object.capacity() == 8);
     let none = IObject::new(alloc);
     assert!(rt; object == none && none.capacity() == 0);
+    let ten = IObject::with_capacity(alloc, 10).expect(&rt, "room");
+    assert!(rt; none == ten && ten == none && ten.capacity() == 10);
+    drop(ten);
     drop(none);
     object.reserve(9).expect(&rt, "room");
     assert!(rt; object.capacity() == 16);
@@ -475,6 +479,9 @@ fn pairs_are_collected(rt: HostRuntime) {
     for &(pairs, shown) in &COLLECTED {
         let object = IObject::from_iter(alloc, of_pairs(&rt, alloc, pairs));
         let object = object.expect(&rt, "an object");
+        let wanted = of_pairs(&rt, alloc, pairs);
+        assert!(rt; object == wanted);
+        drop(wanted);
         for &(letters, number) in pairs {
             assert!(rt; number_at(&object, letters) == number);
         }
@@ -738,25 +745,85 @@ fn retained(rt: HostRuntime) {
     gives_out(&rt, object);
 }
 
-/// The debug output of the entries of a, which exists, and of x, which does not.
+/// The debug output of the entries of the last of three keys, and of a missing key.
 static ENTRIES: [(&str, &str); 2] = [
-    ("a", "Occupied(OccupiedEntry { key: \"a\", value: 0 })"),
-    ("x", "Vacant(VacantEntry { key: \"x\" })"),
+    ("b", r#"Occupied(OccupiedEntry { key: "b", value: 2 })"#),
+    (
+        "another \"long\" key",
+        r#"Vacant(VacantEntry { key: "another \"long\" key" })"#,
+    ),
 ];
+
+/// The debug output of three entries, whose keys are not sorted, and of the last two.
+static ITERATED: [&str; 2] = [
+    r#"[("c", 0), ("a \"long\" key\n", 1), ("b", 2)]"#,
+    r#"[("a \"long\" key\n", 1), ("b", 2)]"#,
+];
+
+/// Asserts the debug output of iterators that yield the first entry.
+fn iterators_are_shown(rt: &impl Abort, alloc: Global, object: IObject) {
+    let mut pairs = object.iter();
+    is_shown(rt, alloc, &pairs, ITERATED[0]);
+    assert!(rt; pairs.next().is_some());
+    is_shown(rt, alloc, &pairs, ITERATED[1]);
+    let mut pairs = object.into_iter();
+    let first = pairs.next().expect(rt, "a pair");
+    drop(first);
+    let want = format!(in alloc; "IntoIter({})", ITERATED[1]).expect(rt, "a text");
+    is_shown(rt, alloc, &pairs, &want);
+    drop(pairs);
+}
 
 #[test]
 fn what_is_shown(rt: HostRuntime) {
     let alloc = rt.alloc();
-    let mut object = of_keys(&rt, alloc, &["a", "k"]);
+    let mut object = of_keys(&rt, alloc, &["c", "a \"long\" key\n", "b"]);
     for &(letters, want) in &ENTRIES {
         let entry = object.entry(key(&rt, alloc, letters)).expect(&rt, "room");
         is_shown(&rt, alloc, &entry, want);
         drop(entry);
     }
-    is_shown(&rt, alloc, &object.iter(), "[(\"a\", 0), (\"k\", 1)]");
-    let pairs = object.into_iter();
-    is_shown(&rt, alloc, &pairs, "IntoIter([(\"a\", 0), (\"k\", 1)])");
-    drop(pairs);
+    is_shown(
+        &rt,
+        alloc,
+        &object,
+        r#"{"c": 0, "a \"long\" key\n": 1, "b": 2}"#,
+    );
+    iterators_are_shown(&rt, alloc, object);
+}
+
+/// Asserts the message and the debug output of an error.
+fn tells<E: Debug + Display + Drop>(rt: &impl Abort, alloc: Global, error: E, want: &str) {
+    let told = format!(in alloc; "{error}|{error:?}").expect(rt, "a text");
+    assert!(rt; told.as_str() == want, "{told} is not {want}");
+    drop(error);
+}
+
+/// Reasons, and the message and the debug output of a list that is returned for each.
+static RETURNED: [(ReserveError, &str); 2] = [
+    (
+        ReserveError::Memory,
+        r#"the object was not created: a request for memory was refused|RefusedPairs { pairs: [("a", 1), ("b", 2), ("a", 3)], why: Memory }"#,
+    ),
+    (
+        ReserveError::TooLarge,
+        r#"the object was not created: the capacity would pass 2^56|RefusedPairs { pairs: [("a", 1), ("b", 2), ("a", 3)], why: TooLarge }"#,
+    ),
+];
+
+#[test]
+fn errors_tell_the_reason(rt: HostRuntime) {
+    let alloc = rt.alloc();
+    for &(why, want) in &RETURNED {
+        let pairs = listed(&rt, alloc);
+        tells(&rt, alloc, RefusedPairs { pairs, why }, want);
+    }
+    let missing = RefusedReplacement::Missing(key(&rt, alloc, "k"));
+    let want = r#"the key to replace is missing|Missing("k")"#;
+    tells(&rt, alloc, missing, want);
+    let exists = RefusedReplacement::Exists(key(&rt, alloc, "k"));
+    let want = r#"another entry has the new key|Exists("k")"#;
+    tells(&rt, alloc, exists, want);
 }
 
 // The strings are not created by `key`: `put_two` requires two that differ, and no contract describes the result of `key`.

@@ -7,7 +7,7 @@ ghost use Rattle.ijson_value.specs.Tree.{boolean, null};
 
 use super::built::Part::{self, Array, Bool, Null, Number, Object, Text};
 use super::built::built;
-use super::{is_shown, set};
+use super::{insert_new, is_shown, key, set};
 use crate::array::IArray;
 use crate::object::IObject;
 use crate::value::{Destructured, DestructuredMut, DestructuredRef, IValue, ValueType};
@@ -325,6 +325,37 @@ fn values_shown(rt: HostRuntime) {
     }
 }
 
+/// Values, and the `Debug` text of each with a width of 6.
+///
+/// As in std, a Boolean in a list is padded, and a string is not. Nor are null and numbers.
+static WIDE: [(&[Part], &str); 4] = [
+    (&[Null], "null"),
+    (&[Bool(true)], "  true"),
+    (&[Text("s")], "\"s\""),
+    (
+        &[
+            Bool(true),
+            Null,
+            Text("s"),
+            Bool(false),
+            Object(&["k"]),
+            Array(4),
+        ],
+        "[  true, null, \"s\", {\"k\":  false}]",
+    ),
+];
+
+#[test]
+fn values_shown_at_a_width(rt: HostRuntime) {
+    let alloc = rt.alloc();
+    for &(parts, want) in &WIDE {
+        let value = built(&rt, alloc, parts);
+        let text = format!(in alloc; "{value:>6?}").expect(&rt, "a text");
+        assert!(rt; text.as_str() == want, "{text} is not {want}");
+        drop(value);
+    }
+}
+
 /// Returns the capacity of an array or object.
 fn room(value: &IValue) -> Option<usize> {
     match value.destructure_ref() {
@@ -342,7 +373,93 @@ fn room_given(value: IValue) -> Option<usize> {
     }
 }
 
-/// Asserts that an array or object keeps its capacity while it is borrowed, and after it is moved out.
+/// Moves a value into an array and out of it, by each call that does so.
+fn through_array(rt: &impl Abort, alloc: Global, value: IValue) -> IValue {
+    let mut array = IArray::new(alloc);
+    array.push(value).expect(rt, "room");
+    array.insert(0, IValue::NULL).expect(rt, "room");
+    let value = array.swap_remove(1).expect(rt, "an element");
+    array.insert(0, value).expect(rt, "room");
+    let value = array.remove(0).expect(rt, "an element");
+    array.push(value).expect(rt, "room");
+    let value = array.pop().expect(rt, "an element");
+    set(&mut array.as_mut_slice()[0], value);
+    let mut outer = IValue::from(array);
+    assert!(rt; outer.is_array());
+    let value = outer.remove(0usize).expect(rt, "an element");
+    drop(outer);
+    value
+}
+
+/// Moves a value into an object and out of it, by each call that does so.
+fn through_object(rt: &impl Abort, alloc: Global, value: IValue) -> IValue {
+    let mut object = IObject::new(alloc);
+    insert_new(rt, &mut object, key(rt, alloc, "k"), value);
+    let value = object.remove("k").expect(rt, "a value");
+    set(
+        object
+            .index_or_insert(key(rt, alloc, "k"))
+            .expect(rt, "room"),
+        value,
+    );
+    let value = object.shift_remove("k").expect(rt, "a value");
+    let entry = object.entry(key(rt, alloc, "k")).expect(rt, "room");
+    entry.or_insert(value);
+    let mut outer = IValue::from(object);
+    assert!(rt; outer.is_object());
+    let value = outer.remove("k").expect(rt, "a value");
+    drop(outer);
+    value
+}
+
+/// Moves a value out of an iterator over an array, and one over an object.
+fn through_iterators(rt: &impl Abort, alloc: Global, value: IValue) -> IValue {
+    let mut array = IArray::new(alloc);
+    array.push(value).expect(rt, "room");
+    let mut items = array.into_iter();
+    let value = items.next().expect(rt, "an element");
+    drop(items);
+    let mut object = IObject::new(alloc);
+    insert_new(rt, &mut object, key(rt, alloc, "k"), value);
+    let mut pairs = object.into_iter();
+    let (key, value) = pairs.next().expect(rt, "a pair");
+    drop(key);
+    drop(pairs);
+    value
+}
+
+/// Takes a value apart, builds it again, and passes it as an option.
+fn opened_and_closed(rt: &impl Abort, mut value: IValue) -> IValue {
+    let taken = value.take();
+    drop(value);
+    let same = match taken.destructure() {
+        Destructured::Array(array) => IValue::from(array),
+        Destructured::Object(object) => IValue::from(object),
+        other => {
+            drop(other);
+            IValue::NULL
+        }
+    };
+    let (back, holds) = handed_back(IValue::from(Some(same)));
+    assert!(rt; holds);
+    back
+}
+
+/// Asserts that an array or object of one number keeps its capacity through each move.
+fn keeps_room_with(rt: &impl Abort, alloc: Global, value: IValue, want: usize) {
+    let value = opened_and_closed(rt, value);
+    assert!(rt; room(&value) == Some(want));
+    let value = through_array(rt, alloc, value);
+    assert!(rt; room(&value) == Some(want));
+    let value = through_object(rt, alloc, value);
+    assert!(rt; room(&value) == Some(want));
+    let value = through_iterators(rt, alloc, value);
+    assert!(rt; room(&value) == Some(want));
+    assert!(rt; value.len() == Some(1));
+    keeps_room(rt, value, want);
+}
+
+/// Asserts that an array or object keeps its capacity while it is emptied, and after it is moved out.
 fn keeps_room(rt: &impl Abort, mut value: IValue, want: usize) {
     empty(&mut value);
     assert!(rt; room(&value) == Some(want));
@@ -354,10 +471,13 @@ fn keeps_room(rt: &impl Abort, mut value: IValue, want: usize) {
 
 #[test]
 fn room_goes_along(rt: HostRuntime) {
-    let array = IArray::with_capacity(rt.alloc(), 7).expect(&rt, "room");
-    keeps_room(&rt, array.into(), 7);
-    let object = IObject::with_capacity(rt.alloc(), 7).expect(&rt, "room");
-    keeps_room(&rt, object.into(), 7);
+    let alloc = rt.alloc();
+    let mut array = IArray::with_capacity(alloc, 7).expect(&rt, "room");
+    array.push(IValue::from(1u8)).expect(&rt, "room");
+    keeps_room_with(&rt, alloc, array.into(), 7);
+    let mut object = IObject::with_capacity(alloc, 40).expect(&rt, "room");
+    insert_new(&rt, &mut object, key(&rt, alloc, "a"), IValue::from(1u8));
+    keeps_room_with(&rt, alloc, object.into(), 40);
 }
 
 /// Takes a value of a kind, which leaves null, and takes it apart.

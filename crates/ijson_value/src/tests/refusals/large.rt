@@ -10,7 +10,7 @@ use std::alloc::Global;
 use std::process::Abort;
 
 /// Returns the key of a number: one character, which does not allocate.
-fn numbered(rt: &impl Abort, alloc: Global, number: u16) -> IString {
+pub fn numbered(rt: &impl Abort, alloc: Global, number: u16) -> IString {
     let character = char::from_u32(0x4e00 + u32::from(number)).expect(rt, "a character");
     let mut bytes = [0; 4];
     key(rt, alloc, character.encode_utf8(&mut bytes))

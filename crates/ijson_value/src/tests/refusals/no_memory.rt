@@ -2,14 +2,16 @@
 //! requests as one.
 
 use super::array_of_room;
+use super::large::numbered;
 use super::objects::{holds, is_granted, refused_entry, with_pairs};
 use crate::array::IArray;
 use crate::object::{Entry, IObject};
 use crate::tests::objects::asked;
-use crate::tests::{key, number_in, number_of, of_number, set};
+use crate::tests::{insert_new, key, number_in, number_of, of_number, set};
 use crate::value::{Destructured, DestructuredMut, DestructuredRef, IValue, ValueType};
 use ijson_string::IString;
-use std::alloc::Global;
+use ijson_table::ReserveError;
+use std::alloc::{AllocError, Global};
 use std::cmp::Ordering;
 use std::hash::{DefaultHasher, Hash, Hasher};
 use std::process::Abort;
@@ -289,10 +291,140 @@ fn values(rt: &impl Abort, alloc: Global, rounds: u32) {
     drop(same);
 }
 
+/// Returns an object of the numbers below 100, without spare capacity.
+fn hundred(rt: &impl Abort, alloc: Global) -> IObject {
+    let mut object = granted!(rt; ReserveError::Memory; IObject::with_capacity(alloc, 100));
+    for number in 0..100u16 {
+        let key = numbered(rt, alloc, number);
+        insert_new(rt, &mut object, key, of_number(usize::from(number)));
+    }
+    object
+}
+
+/// Finds the entry of 98 by its key and by its index, and writes to it.
+fn finds_by_index(rt: &impl Abort, object: &mut IObject, key: &IString) {
+    assert!(rt; object.get_index_of(key) == Some(98));
+    assert!(rt;
+        matches!(object.get_index(98), Some((same, value)) if same == key && number_of(value) == 98)
+    );
+    match object.get_key_value_mut(key) {
+        Some((same, value)) => {
+            assert!(rt; same == key);
+            set(value, of_number(98));
+        }
+        None => {}
+    }
+}
+
+/// Removes the entry of 98, and inserts it at its index again.
+fn shifts(rt: &impl Abort, object: &mut IObject, key: &IString) {
+    let (key, value) = object.shift_remove_entry(key).expect(rt, "a pair");
+    assert!(rt; object.len() == 99);
+    let former = object.shift_insert(98, key, value).expect(rt, "room");
+    assert!(rt; number_in(former).is_none());
+}
+
+/// Reads, writes and removes the value of a key of a value, and inserts it again.
+fn asks_value(rt: &impl Abort, value: &mut IValue, key: &IString) {
+    assert!(rt; matches!(value.get(key), Some(found) if number_of(found) == 98));
+    put_number(value.get_mut(key), 98);
+    assert!(rt; value.is_object());
+    assert!(rt; number_in(value.remove(key)) == Some(98));
+    assert!(rt; value.is_object());
+    let place = value.index_or_insert(copied(rt, key));
+    set(place.expect(rt, "room"), of_number(98));
+}
+
+/// Reads, writes and removes the first element of a value, and appends it again.
+fn asks_elements(rt: &impl Abort, value: &mut IValue) {
+    assert!(rt; matches!(value.get(99usize), Some(found) if number_of(found) == 99));
+    put_number(value.get_mut(99usize), 99);
+    assert!(rt; value.is_array());
+    let last = value.remove(99usize).expect(rt, "an element");
+    let array = value.as_array_mut().expect(rt, "an array");
+    array.push(last).expect(rt, "room");
+    array.as_mut_slice().reverse();
+    array.as_mut_slice().reverse();
+}
+
+/// Converts a value to each type.
+fn converts(rt: &impl Abort, seven: &IValue) {
+    assert!(rt; seven.to_i32() == Some(7) && seven.to_u32() == Some(7));
+    assert!(rt; seven.to_i64() == Some(7) && seven.to_u64() == Some(7));
+    assert!(rt; seven.to_isize() == Some(7) && seven.to_usize() == Some(7));
+    assert!(rt; seven.to_bool().is_none());
+}
+
+/// Returns an array of the numbers below 100, as a value.
+fn hundred_elements(rt: &impl Abort, alloc: Global) -> IValue {
+    let mut array = array_of_room(rt, alloc, 100);
+    for number in 0..100usize {
+        array.push(of_number(number)).expect(rt, "room");
+    }
+    IValue::from(array)
+}
+
+/// Asks larger containers for their parts.
+fn asks(rt: &impl Abort, alloc: Global, rounds: u32) {
+    let mut object = hundred(rt, alloc);
+    let mut value = IValue::from(hundred(rt, alloc));
+    let mut elements = hundred_elements(rt, alloc);
+    let (key, seven) = (numbered(rt, alloc, 98), of_number(7));
+    for _ in 0..rounds {
+        finds_by_index(rt, &mut object, &key);
+        shifts(rt, &mut object, &key);
+        asks_value(rt, &mut value, &key);
+        asks_elements(rt, &mut elements);
+        converts(rt, &seven);
+    }
+    drop(key);
+    drop(seven);
+    drop(object);
+    drop(value);
+    drop(elements);
+}
+
+/// The number of larger objects that are taken apart, at most two in a round.
+const APART: usize = 8;
+
+/// Moves the entries of an object out, as a list or by an iterator.
+fn moves_out(rt: &impl Abort, value: IValue, as_list: bool) {
+    let object = value.into_object().expect(rt, "an object");
+    if as_list {
+        let pairs = object.into_pairs();
+        assert!(rt; pairs.len() == 100);
+        drop(pairs);
+    } else {
+        let pairs = object.into_iter();
+        assert!(rt; pairs.len() == 100);
+        drop(pairs);
+    }
+}
+
+/// Takes apart two of the objects in each round, and drops those that are left.
+fn takes_objects_apart(rt: &impl Abort, alloc: Global, rounds: u32) {
+    let mut objects = array_of_room(rt, alloc, APART);
+    for _ in 0..APART {
+        objects
+            .push(IValue::from(hundred(rt, alloc)))
+            .expect(rt, "room");
+    }
+    for _ in 0..rounds {
+        for as_list in [true, false] {
+            if let Some(value) = objects.pop() {
+                moves_out(rt, value, as_list);
+            }
+        }
+    }
+    drop(objects);
+}
+
 fn all(rt: &impl Abort, alloc: Global, rounds: u32) {
     arrays(rt, alloc, rounds);
     objects(rt, alloc, rounds);
     values(rt, alloc, rounds);
+    asks(rt, alloc, rounds);
+    takes_objects_apart(rt, alloc, rounds);
     // The first allocation after the others.
     drop(array_of_room(rt, alloc, 1));
 }
