@@ -1,5 +1,6 @@
 //! A sink for a writer of the standard library. It knows the bytes that the writer knows.
-ghost use Rattle.std.specs.Prelude.{◌≡◌};
+ghost use Rattle.std.specs.Prelude.{◌≡◌, ◌+◌, ◌^◌, ◌<◌, OnOk, OnErr};
+ghost use Rattle.std.specs.Io.KnownBytes.{Keeps};
 
 use crate::device::{DeviceFault, Sink};
 use std::io::Write;
@@ -7,8 +8,8 @@ use std::marker::Model;
 
 /// A sink that writes to a writer.
 ///
-/// Any error is a fault, and so is a write that accepts none of some bytes. It does not allocate. Each call is one write of the writer,
-/// which is not flushed.
+/// Any error is a fault, and so is a write that accepts none of some bytes. It does not allocate. Each call is one write of the writer;
+/// only `flush` flushes it.
 #[derive(Drop)]
 pub struct StreamSink<W> {
     inner: W,
@@ -32,6 +33,28 @@ impl<W: Write> StreamSink<W> {
         ensures { result ≡ record { inner = inner; failed = 0 } }
     {
         StreamSink { inner, failures: 0 }
+    }
+
+    /// Flushes the writer, once.
+    ///
+    /// `failures` must be below 2^64 - 1.
+    ///
+    /// # Errors
+    ///
+    /// On a fault, `failures` increases by one.
+    pub fn flush(&mut self) -> Result<(), DeviceFault>
+        requires { self.old.failed + 1 < 2 ^ 64 }
+        ensures count { OnOk result (self.new.failed ≡ self.old.failed) }
+        ensures fault { OnErr result (self.new.failed ≡ self.old.failed + 1) }
+        ensures bytes { Keeps (W.contents self.old.inner) (W.contents self.new.inner) }
+    {
+        match self.inner.flush() {
+            Ok(()) => Ok(()),
+            Err(_) => {
+                self.failures += 1;
+                Err(DeviceFault)
+            }
+        }
     }
 
     /// Returns the writer, without flushing it.
