@@ -177,17 +177,75 @@ fn reports_have_a_line_and_a_status(rt: HostRuntime) {
     }
 }
 
-/// A reader and writer that always fails.
+/// A reader and writer whose calls fail with an error of this kind, and count themselves.
 #[derive(Drop)]
-struct Broken;
+struct Broken {
+    kind: ErrorKind,
+    calls: u32,
+}
+
+impl Broken {
+    fn new(kind: ErrorKind) -> Broken {
+        Broken { kind, calls: 0 }
+    }
+
+    fn call(&mut self) -> io::Error {
+        self.calls = self.calls.saturating_add(1);
+        io::Error::from(self.kind)
+    }
+}
 
 impl Read for Broken {
     fn read(&mut self, _buf: &mut [u8]) -> io::Result<usize> {
-        Err(io::Error::from(ErrorKind::Other))
+        Err(self.call())
     }
 }
 
 impl Write for Broken {
+    fn write(&mut self, _buf: &[u8]) -> io::Result<usize> {
+        Err(self.call())
+    }
+
+    fn flush(&mut self) -> io::Result<()> {
+        Err(self.call())
+    }
+}
+
+/// Any error is a fault, also an interruption, which std's `read_exact` and `write_all` would repeat.
+#[test]
+fn streams_that_fail_are_faults(rt: HostRuntime) {
+    for kind in [ErrorKind::Other, ErrorKind::Interrupted] {
+        let mut source = StreamSource::new(Broken::new(kind));
+        let mut sink = StreamSink::new(Broken::new(kind));
+        assert!(rt; source.read(&mut [0; 4]) == Err(DeviceFault));
+        assert!(rt; sink.write(b"a") == Err(DeviceFault) && sink.failures() == 1);
+        assert!(rt; sink.flush() == Err(DeviceFault) && sink.failures() == 2);
+        assert!(rt; source.failures() == 1 && source.into_inner().calls == 1);
+        assert!(rt; sink.into_inner().calls == 2);
+    }
+}
+
+/// A failed read ends `compact`, and a failed write too, whatever the kind of the error.
+#[test]
+fn streams_that_fail_end_a_call(rt: HostRuntime) {
+    let alloc = rt.alloc();
+    for kind in [ErrorKind::Other, ErrorKind::Interrupted] {
+        let mut input = StreamSource::new(Broken::new(kind));
+        let mut output = StreamSink::new(Broken::new(kind));
+        let answer = compact(alloc, &mut input, &mut output, &mut empty_cache(alloc));
+        assert!(rt; answer == Err(CompactError::Read) && output.failures() == 0);
+        let mut whole = MemorySource::new(TEXT, 3, 12);
+        let answer = compact(alloc, &mut whole, &mut output, &mut empty_cache(alloc));
+        assert!(rt; answer == Err(CompactError::Write));
+        assert!(rt; input.into_inner().calls == 1 && output.into_inner().calls == 1);
+    }
+}
+
+/// A writer that accepts nothing, and can be flushed.
+#[derive(Drop)]
+struct Full;
+
+impl Write for Full {
     fn write(&mut self, _buf: &[u8]) -> io::Result<usize> {
         Ok(0)
     }
@@ -198,22 +256,11 @@ impl Write for Broken {
 }
 
 #[test]
-fn streams_that_fail_are_faults(rt: HostRuntime) {
-    let mut source = StreamSource::new(Broken);
-    let mut sink = StreamSink::new(Broken);
-    assert!(rt; source.read(&mut [0; 4]) == Err(DeviceFault));
-    assert!(rt; sink.write(&[]) == Ok(0));
-    assert!(rt; sink.write(b"a") == Err(DeviceFault));
-    assert!(rt; source.failures() == 1 && sink.failures() == 1);
-    let mut input = StreamSource::new(Broken);
-    let mut output = StreamSink::new(Broken);
-    let answer = compact(
-        rt.alloc(),
-        &mut input,
-        &mut output,
-        &mut empty_cache(rt.alloc()),
-    );
-    assert!(rt; answer == Err(CompactError::Read));
+fn a_writer_that_accepts_nothing_is_a_fault(rt: HostRuntime) {
+    let mut sink = StreamSink::new(Full);
+    assert!(rt; sink.write(&[]) == Ok(0) && sink.flush() == Ok(()));
+    assert!(rt; sink.failures() == 0);
+    assert!(rt; sink.write(b"a") == Err(DeviceFault) && sink.failures() == 1);
 }
 
 /// A reader of its bytes, and a writer after them, that move three bytes a call.

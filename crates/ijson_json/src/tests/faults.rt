@@ -77,13 +77,20 @@ static STRING_SYNTAX: [(&str, usize); 16] = [
 ];
 
 /// Texts with a number whose exponent is out of range, and the position of each error.
-static NUMBER_RANGE: [(&str, usize); 6] = [
+static NUMBER_RANGE: [(&str, usize); 9] = [
     ("10e1073741824", 0),
     ("1e-1073741825", 0),
     ("1e99999999999999999999999", 0),
     ("1e1073741825-", 0),
     ("[1e1073741825,]", 1),
     ("{\"a\":1e1073741825,\"a\":1}", 5),
+    // more digits than one read of the fast path takes
+    ("1234567890123456789012345678901234e1073741825", 0),
+    ("1.00000000000000000000000000000000e1073741825", 0),
+    (
+        "[1,-0.00000000000000000000000000000000000001e-1073741824]",
+        3,
+    ),
 ];
 
 /// Returns the line that reports an error.
@@ -125,6 +132,83 @@ fn number_range(rt: HostRuntime) {
     }
 }
 
+/// Texts before a value, of white space and past ASCII.
+static FRONTS: [&str; 2] = ["\n \t\r\n", "[\"é東京\u{1f600}\",\n"];
+
+/// Asserts that a text is rejected after `front`, at `at` there.
+fn refused_after(
+    rt: &impl Abort,
+    alloc: Global,
+    front: &str,
+    text: &str,
+    at: usize,
+    is_range: bool,
+) {
+    let whole = format!(in alloc; "{front}{text}").expect(rt, "a text");
+    let at = front.len().saturating_add(at);
+    let fault = if is_range {
+        JsonError::NumberRange { at }
+    } else {
+        JsonError::Syntax { at }
+    };
+    assert!(rt;
+        rewritten(alloc, whole.as_str()).err() == Some(fault),
+        "{text}"
+    );
+}
+
+fn each_refused_after(
+    rt: &impl Abort,
+    alloc: Global,
+    front: &str,
+    rows: &[(&str, usize)],
+    is_range: bool,
+) {
+    for (text, at) in rows {
+        refused_after(rt, alloc, front, text, *at, is_range);
+    }
+}
+
+#[test]
+fn positions_after_other_text(rt: HostRuntime) {
+    let alloc = rt.alloc();
+    for &front in &FRONTS {
+        each_refused_after(&rt, alloc, front, &SYNTAX, false);
+        each_refused_after(&rt, alloc, front, &NUMBER_SYNTAX, false);
+        each_refused_after(&rt, alloc, front, &STRING_SYNTAX, false);
+        each_refused_after(&rt, alloc, front, &NUMBER_RANGE, true);
+    }
+}
+
+/// Long texts before a value: the beginning, and what follows it 35,000 times.
+static LONG_FRONTS: [(&str, &str); 2] = [("[", "0,"), ("{\"é\":[\"東京\",", " \n")];
+
+/// A text for each kind of fault in syntax, and the position of each error.
+static KINDS: [(&str, usize); 11] = [
+    ("", 0),
+    ("nulx", 3),
+    ("\n1 2", 3),
+    ("[1,]", 3),
+    ("{\"é\" 1}", 6),
+    ("01", 1),
+    ("1e+", 3),
+    ("\"é\t\"", 3),
+    ("\"é\\ud834x\"", 3),
+    ("\"é\\u12", 3),
+    ("\"é", 3),
+];
+
+#[test]
+fn positions_after_70_000_bytes(rt: HostRuntime) {
+    let alloc = rt.alloc();
+    for &(beginning, part) in &LONG_FRONTS {
+        let parts = nested(&rt, alloc, part, 35_000, "", "");
+        let front = format!(in alloc; "{beginning}{parts}").expect(&rt, "a text");
+        each_refused_after(&rt, alloc, front.as_str(), &KINDS, false);
+        each_refused_after(&rt, alloc, front.as_str(), &NUMBER_RANGE, true);
+    }
+}
+
 /// Each proper prefix of a text is rejected: inside the escape at its backslash, otherwise at its end.
 #[test]
 fn beginnings(rt: HostRuntime) {
@@ -144,8 +228,13 @@ fn beginnings(rt: HostRuntime) {
 /// Texts that are too deep, and the position of the error.
 ///
 /// Each is the text before, an opening, its count, the text inside, a closing, and the text after.
-static DEEP: [(&str, &str, usize, &str, &str, &str, usize); 3] = [
+static DEEP: [(&str, &str, usize, &str, &str, &str, usize); 8] = [
     ("", "[", 128, "", "]", "", 127),
+    ("", "[\n", 128, "", "]", "", 254),
+    ("", "\n[", 128, "", "]", "", 255),
+    ("\n ", "[", 128, " \t\n", "]", "\n", 129),
+    ("", "{\"é\":\r\n ", 128, "null", " }", "", 1143),
+    ("[\"é東京\u{1f600}\",", "[", 127, "", "]", "]", 142),
     ("", "{\"a\":", 128, "null", "}", "", 635),
     ("{\"a\":", "[", 127, "", "]", ",\"a\":1}", 131),
 ];
@@ -158,4 +247,15 @@ fn too_deep(rt: HostRuntime) {
         let text = format!(in alloc; "{front}{deep}{behind}").expect(&rt, "a text");
         refused(&rt, alloc, text.as_str(), JsonError::TooDeep { at });
     }
+}
+
+/// 128 brackets after 70,000 bytes, each before a line feed.
+#[test]
+fn too_deep_after_much_text(rt: HostRuntime) {
+    let alloc = rt.alloc();
+    let zeros = nested(&rt, alloc, "0,", 35_000, "", "");
+    let deep = nested(&rt, alloc, "[\n", 127, "", "]");
+    let text = format!(in alloc; "[{zeros}{deep}]").expect(&rt, "a text");
+    let at = 70_001 + 2 * 126;
+    assert!(rt; rewritten(alloc, text.as_str()).err() == Some(JsonError::TooDeep { at }));
 }

@@ -42,6 +42,11 @@ impl Hasher for Comparing<'_> {
         self.count
             .set(if is_wanted { count + 1 } else { usize::MAX });
     }
+
+    // By default this is a `write_u64`; each other call is a `write`.
+    fn write_i64(&mut self, _word: i64) {
+        self.count.set(usize::MAX);
+    }
 }
 
 /// Asserts that `value` feeds these words, each by `write_u64`, and nothing else.
@@ -56,7 +61,7 @@ fn feeds<T: Hash>(rt: &impl Abort, value: &T, wanted: &[u64]) {
 }
 
 /// Texts, and the words that the value of each feeds a hasher.
-static WORDS: [(&str, &[u64]); 16] = [
+static WORDS: [(&str, &[u64]); 18] = [
     ("null", &[0]),
     ("false", &[1, 0]),
     ("true", &[1, 1]),
@@ -73,6 +78,23 @@ static WORDS: [(&str, &[u64]); 16] = [
     ("{\"o\":{\"k\":1}}", &[5, 1, 14594105837547140109]),
     ("{\"k\":2,\"l\":[1,{}]}", &[5, 2, 4038060259889821969]),
     ("{\"l\":[1.0,{}],\"k\":2.0}", &[5, 2, 4038060259889821969]),
+    (
+        "[-123456789012345678901234567.891]",
+        &[
+            4, 1, 2, 2, 2147483645, 30, 1, 2, 3, 4, 5, 6, 7, 8, 9, 0, 1, 2, 3, 4, 5, 6, 7, 8, 9, 0,
+            1, 2, 3, 4, 5, 6, 7, 8, 9, 1,
+        ],
+    ),
+    (
+        "\"0123456789012345678901234567890123456789012345678901234567890123456789012345678901234567890123456789\"",
+        &[
+            3, 100, 48, 49, 50, 51, 52, 53, 54, 55, 56, 57, 48, 49, 50, 51, 52, 53, 54, 55, 56, 57,
+            48, 49, 50, 51, 52, 53, 54, 55, 56, 57, 48, 49, 50, 51, 52, 53, 54, 55, 56, 57, 48, 49,
+            50, 51, 52, 53, 54, 55, 56, 57, 48, 49, 50, 51, 52, 53, 54, 55, 56, 57, 48, 49, 50, 51,
+            52, 53, 54, 55, 56, 57, 48, 49, 50, 51, 52, 53, 54, 55, 56, 57, 48, 49, 50, 51, 52, 53,
+            54, 55, 56, 57, 48, 49, 50, 51, 52, 53, 54, 55, 56, 57,
+        ],
+    ),
 ];
 
 /// Asserts that a value feeds these words, and that an array or object in it feeds the same.
