@@ -106,33 +106,59 @@ fn canonical_at_any_depth(rt: HostRuntime) {
     is_too_deep(&rt, alloc, text.as_str());
 }
 
-/// Appends `count` members, with keys of six digits in order.
-fn push_members(rt: &impl Abort, text: &mut String, count: u32) {
-    for n in 0..count {
+/// 127 nested objects of two members each, and the canonical text, where these are swapped.
+#[test]
+fn canonical_of_deep_objects(rt: HostRuntime) {
+    let alloc = rt.alloc();
+    let front = "{\"b\":0,\"a\":".repeat(alloc, 127).expect(&rt, "the openings");
+    let sorted = "{\"a\":".repeat(alloc, 127).expect(&rt, "the openings");
+    let closings = "}".repeat(alloc, 127).expect(&rt, "the closings");
+    let behind = ",\"b\":0}".repeat(alloc, 127).expect(&rt, "the closings");
+    let text = format!(in alloc; "{front}null{closings}").expect(&rt, "a text");
+    let want = format!(in alloc; "{sorted}null{behind}").expect(&rt, "a text");
+    let value = parsed(&rt, alloc, text.as_str());
+    is_canonical(&rt, alloc, &value, want.as_str());
+    drop(value);
+}
+
+/// The order of the members of a text.
+#[derive(Clone, Copy)]
+enum Keys {
+    Rising,
+    Falling,
+}
+
+/// Appends 100,000 members, whose keys have six digits.
+fn push_members(rt: &impl Abort, text: &mut String, keys: Keys) {
+    for n in 0..100_000u32 {
         push_separator(text, n == 0).expect(rt, "room");
         text.push('"').expect(rt, "room");
-        let number = INumber::from(n.wrapping_add(100_000));
-        number.push_to(text).expect(rt, "room");
+        let number = match keys {
+            Keys::Rising => n.wrapping_add(100_000),
+            Keys::Falling => 199_999u32.wrapping_sub(n),
+        };
+        INumber::from(number).push_to(text).expect(rt, "room");
         text.push_str("\":0").expect(rt, "room");
     }
 }
 
 /// Returns a list of a string, zeros, an object and a number, with `behind` after the number.
 ///
-/// There are 5,000 letters, elements, members and digits.
-fn much(rt: &impl Abort, alloc: Global, behind: &str) -> String {
+/// There are 5,000 letters, elements and digits, and 100,000 members.
+fn much(rt: &impl Abort, alloc: Global, keys: Keys, behind: &str) -> String {
     let letters = "a".repeat(alloc, 5000).expect(rt, "the letters");
     let digits = "1".repeat(alloc, 5000).expect(rt, "the digits");
     let zeros = "0,".repeat(alloc, 5000).expect(rt, "the zeros");
     let mut members = String::new(alloc);
-    push_members(rt, &mut members, 5000);
+    push_members(rt, &mut members, keys);
     format!(in alloc; "[\"{letters}\",{zeros}{{{members}}},{digits}{behind}]").expect(rt, "a text")
 }
 
 #[test]
 fn canonical_of_much(rt: HostRuntime) {
     let alloc = rt.alloc();
-    let value = parsed(&rt, alloc, much(&rt, alloc, "").as_str());
-    is_canonical(&rt, alloc, &value, much(&rt, alloc, "e0").as_str());
+    let value = parsed(&rt, alloc, much(&rt, alloc, Keys::Falling, "").as_str());
+    let want = much(&rt, alloc, Keys::Rising, "e0");
+    is_canonical(&rt, alloc, &value, want.as_str());
     drop(value);
 }

@@ -218,20 +218,20 @@ fn pointers_to_be_written(rt: HostRuntime) {
     writes(&rt, alloc, Way::Method);
 }
 
-const NESTED: &str = "{\"a\":[{\"b\":[1]}]}";
+const NESTED: &str = "{\"a\":[{\"m~/n\":[1]}]}";
 
 /// Pointers to the containers of `NESTED`, the outermost first.
-static CONTAINERS: [&str; 4] = ["", "/a", "/a/0", "/a/0/b"];
+static CONTAINERS: [&str; 4] = ["", "/a", "/a/0", "/a/0/m~0~1n"];
 
 /// Pointers that pass these containers. The last four name nothing.
 static PASSING: [&str; 8] = [
     "",
     "/a",
-    "/a/0/b",
-    "/a/0/b/0",
-    "/a/0/b/1",
-    "/a/0/c",
-    "/a/0/b/0/d",
+    "/a/0/m~0~1n",
+    "/a/0/m~0~1n/0",
+    "/a/0/m~0~1n/1",
+    "/a/0/m~1n",
+    "/a/0/m~0~1n/0/d",
     "/a/~",
 ];
 

@@ -7,20 +7,21 @@ use ijson_value::value::IValue;
 use std::alloc::Global;
 use std::process::Abort;
 
-/// Finds and writes values inside a value, an object of one entry.
-fn opens(rt: &impl Abort, value: &mut IValue) {
+/// Finds and writes a null inside a value.
+fn opens(rt: &impl Abort, value: &mut IValue, pointer: &str) {
     assert!(*rt;
-        matches!(resolve(value, "/a").expect(rt, "a value"), Some(found) if found.is_null())
+        matches!(resolve(value, pointer).expect(rt, "a value"), Some(found) if found.is_null())
     );
-    if let Some(place) = resolve_mut(value, "/a").expect(rt, "a pointer") {
+    if let Some(place) = resolve_mut(value, pointer).expect(rt, "a pointer") {
         set(place, IValue::NULL);
     }
 }
 
 fn pointers(rt: &impl Abort, alloc: Global, rounds: u32) {
-    let mut value = parsed(rt, alloc, "{\"a\":null}");
+    let mut value = parsed(rt, alloc, "{\"a\":null,\"m~/n\":[null]}");
     for _ in 0..rounds {
-        opens(rt, &mut value);
+        opens(rt, &mut value, "/a");
+        opens(rt, &mut value, "/m~0~1n/0");
     }
     drop(value);
 }
