@@ -5,6 +5,7 @@
 
 mod conversions;
 mod errors;
+mod literal_trees;
 mod literals;
 mod refusals;
 mod serde;

@@ -4,6 +4,7 @@ use super::{Cache, empty_cache, is_written, parsed};
 use crate::convert::{ConvertError, FromIValue, ToIValue, from_value, to_value};
 use crate::json::to_json;
 use crate::pointer::Pointer;
+use crate::string::IString;
 use crate::value::IValue;
 use indexmap::IndexMap;
 use std::alloc::Global;
@@ -318,6 +319,7 @@ fn values_are_read_as_their_types(rt: HostRuntime) {
     let alloc = rt.alloc();
     reads::<bool>(&rt, alloc, &TRUTH);
     reads::<String>(&rt, alloc, &TEXT);
+    reads::<IString>(&rt, alloc, &TEXT);
     reads::<Vec<Option<i64>>>(&rt, alloc, &OPTIONS);
     reads::<Vec<u8>>(&rt, alloc, &BYTES);
     reads::<BTreeMap<String, bool>>(&rt, alloc, &TRUTHS);

@@ -35,6 +35,7 @@ use crate::json::{JsonError, from_json, to_json};
 use crate::object::IObject;
 use crate::string::IString;
 use crate::value::IValue;
+use indexmap::IndexMap;
 use std::alloc::{AllocError, Global};
 use std::collections::{BTreeMap, HashMap};
 use std::process::Abort;
@@ -96,6 +97,42 @@ fn conversions(rt: HostRuntime) {
     drop(cache);
     is_written(&rt, rt.alloc(), &again, text);
     drop(again);
+}
+
+/// Puts an entry last, whose value is one Boolean.
+fn put(
+    alloc: Global,
+    map: &mut IndexMap<String, [bool; 1]>,
+    letters: &str,
+) -> Result<(), AllocError> {
+    let key = String::from_str(alloc, letters)?;
+    map.insert(key, [true])?;
+    Ok(())
+}
+
+/// Returns the value of a map that keeps the order of its keys.
+fn of_map(rt: &impl Abort, alloc: Global, cache: &mut Cache) -> IValue {
+    let mut map = IndexMap::new(alloc);
+    granted!(rt; put(alloc, &mut map, "longlong"));
+    granted!(rt; put(alloc, &mut map, "eight888"));
+    let value = granted!(rt; ConvertError::Memory; to_value(alloc, cache, &map));
+    drop(map);
+    value
+}
+
+#[test]
+fn conversion_of_a_map_in_order(rt: HostRuntime) {
+    let mut cache = used_cache(&rt, rt.alloc());
+    let value = of_map(&rt, rt.alloc(), &mut cache);
+    assert!(rt; has_three(&cache) && cache.contains("eight888"));
+    drop(cache);
+    is_written(
+        &rt,
+        rt.alloc(),
+        &value,
+        "{\"longlong\":[true],\"eight888\":[true]}",
+    );
+    drop(value);
 }
 
 /// Reads a value as a hash map.
