@@ -383,10 +383,10 @@ fn through_array(rt: &impl Abort, alloc: Global, value: IValue) -> IValue {
     let value = array.remove(0).expect(rt, "an element");
     array.push(value).expect(rt, "room");
     let value = array.pop().expect(rt, "an element");
-    set(&mut array.as_mut_slice()[0], value);
+    array.push(value).expect(rt, "room");
     let mut outer = IValue::from(array);
     assert!(rt; outer.is_array());
-    let value = outer.remove(0usize).expect(rt, "an element");
+    let value = outer.remove(1usize).expect(rt, "an element");
     drop(outer);
     value
 }
