@@ -1,6 +1,5 @@
 """Tests of `python3 -m ijson_proved`: what each command writes, where it finds a text wrong, and its status."""
 
-import contextlib
 import os
 import pathlib
 import pty
@@ -10,6 +9,7 @@ import subprocess
 import sys
 import tempfile
 import threading
+import time
 import unittest
 
 import ijson_proved
@@ -57,7 +57,9 @@ class Command(unittest.TestCase):
 
     def check(self, arguments, out, status=0, err=b"", stdin=b""):
         done = self.run_with(*arguments, stdin=stdin)
-        self.assertEqual((done.stdout, done.stderr, done.returncode), (out, err, status))
+        # Without the difference of two long outputs, which takes minutes.
+        self.assertTrue(done.stdout == out, (done.stdout[:1000], out[:1000]))
+        self.assertEqual((done.stderr, done.returncode), (err, status))
 
     # ---- a text a file
 
@@ -160,6 +162,15 @@ class Command(unittest.TestCase):
         self.assertEqual([int(line[5:line.index(b",")].partition(b".")[0]) for line in one.stdout.splitlines() if line.startswith(b'{"a"')],
                          [number for number, line in values if line.startswith('{"a"')])
 
+    def test_lines_keep_their_order_and_numbers(self):
+        spelled, wanted = ([f"[{number},{space}1]" for number in range(9000)] for space in (" " * 1000, ""))
+        spelled[8500] = "[8500"
+        del wanted[8500]
+        lines = self.file("lines", "\n".join(spelled).encode())
+        for processes in "1", "2":
+            self.check(["compact", "--lines", "--jobs", processes, lines], "".join(f"{line}\n" for line in wanted).encode(), 1,
+                       b"lines:8501:6: not JSON\n")
+
     def test_a_reader_that_leaves_ends_the_command(self):
         lines = self.file("lines", b"[1, 2]\n" * 500_000)
         command = subprocess.Popen([sys.executable, "-B", "-m", "ijson_proved", "compact", "--lines", lines], cwd=self.folder, env=ENVIRONMENT,
@@ -183,24 +194,18 @@ class Command(unittest.TestCase):
     def test_an_interrupt_ends_all_processes(self):
         command = subprocess.Popen([sys.executable, "-B", "-m", "ijson_proved", "compact", "--lines", "--jobs", "2"], cwd=self.folder, env=ENVIRONMENT,
                                    stdin=subprocess.PIPE, stdout=subprocess.PIPE, stderr=subprocess.PIPE, start_new_session=True)
+        # Five chunks, so the answers to the first one are written. The processes then wait, and so does the command, for the sixth.
         line = b"[" + b"1, " * 10_000 + b"1]\n"
-
-        def feed():
-            with contextlib.suppress(BrokenPipeError):
-                while True:
-                    command.stdin.write(line)
-
-        feeder = threading.Thread(target=feed)
+        feeder = threading.Thread(target=lambda: (command.stdin.write(line * 175), command.stdin.flush()))
         feeder.start()
         self.assertEqual(command.stdout.readline(), line.replace(b" ", b""))
+        time.sleep(2)
         os.killpg(command.pid, signal.SIGINT)
         command.stdout.read()
         self.assertEqual((command.wait(60), command.stderr.read()), (130, b""))
         feeder.join()
-        for pipe in command.stdout, command.stderr:
+        for pipe in command.stdin, command.stdout, command.stderr:
             pipe.close()
-        with contextlib.suppress(BrokenPipeError):
-            command.stdin.close()
 
 
 if __name__ == "__main__":
