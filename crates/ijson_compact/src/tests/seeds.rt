@@ -1,6 +1,4 @@
 //! The seed of the program's hasher.
-ghost use Rattle.std.specs.Prelude.{◌<◌};
-
 use crate::seeded::SeededState;
 use std::cell::Cell;
 use std::hash::{BuildHasher, FoldHasher, Hasher};
@@ -9,68 +7,67 @@ use std::io::ErrorKind;
 use std::process::Abort;
 use std::random::RandomSource;
 
-/// A source of bytes that increase by one from `first` on, which fails if there is no first, and counts the bytes.
+/// A source of these bytes and then zeros, which fails if there are none, and counts the bytes given.
 #[derive(Drop)]
-pub struct Rising {
-    pub first: Option<u8>,
-    pub given: Cell<usize>,
+struct Bytes<'a> {
+    bytes: &'a [u8],
+    given: Cell<usize>,
 }
 
-impl Rising {
-    pub fn new(first: Option<u8>) -> Rising {
-        Rising {
-            first,
-            given: Cell::new(0),
-        }
-    }
-}
-
-impl RandomSource for Rising {
+impl RandomSource for Bytes<'_> {
     fn fill_bytes(&self, buf: &mut [u8]) -> io::Result<()> {
-        let Some(first) = self.first else {
+        if self.bytes.is_empty() {
             return Err(io::Error::from(ErrorKind::Other));
-        };
-        let mut next = first;
-        for place in buf.iter_mut() {
-            *place = next;
-            next = next.wrapping_add(1);
         }
-        self.given.set(self.given.get().saturating_add(buf.len()));
+        for place in buf.iter_mut() {
+            let given = self.given.get();
+            *place = self.bytes.get(given).copied().unwrap_or(0);
+            self.given.set(given.saturating_add(1));
+        }
         Ok(())
     }
 }
 
-/// Returns the hash of a word with the seed whose bytes increase from `first` on.
-fn hash(rt: &impl Abort, first: u8) -> u64 {
-    SeededState::new(&Rising::new(Some(first)))
-        .expect(rt, "a seed")
-        .hash_one(7u64)
+/// Returns the result of creating a state from these bytes, and how many it took.
+fn seeded(bytes: &[u8]) -> (io::Result<SeededState>, usize) {
+    let source = Bytes {
+        bytes,
+        given: Cell::new(0),
+    };
+    let state = SeededState::new(&source);
+    (state, source.given.get())
 }
 
-/// All bytes of the seeds.
-static BYTES: [u8; 60] = [
-    0, 1, 2, 3, 4, 5, 6, 7, 8, 9, 10, 11, 12, 13, 14, 15, 16, 17, 18, 19, 20, 21, 22, 23, 24, 25,
-    26, 27, 28, 29, 30, 31, 32, 33, 34, 35, 36, 37, 38, 39, 40, 41, 42, 43, 44, 45, 46, 47, 48, 49,
-    50, 51, 52, 53, 54, 55, 56, 57, 58, 59,
-];
-
-/// Returns the hash of the word of `hash` by std's hasher, after the eight bytes of the seed.
-fn folded(first: usize) -> u64
-    requires { first < 50 }
-{
+/// Returns the hash of a word by std's hasher, after the eight bytes of a seed.
+fn folded(bytes: &[u8]) -> u64 {
     let mut hasher = FoldHasher::default();
-    hasher.write(&BYTES[first..first + 8]);
+    hasher.write(bytes);
     hasher.write_u64(7);
     hasher.finish()
 }
 
+/// Seeds that differ in one byte from the first one.
+static SEEDS: [[u8; 8]; 9] = [
+    [9, 8, 7, 6, 5, 4, 3, 2],
+    [8, 8, 7, 6, 5, 4, 3, 2],
+    [9, 9, 7, 6, 5, 4, 3, 2],
+    [9, 8, 8, 6, 5, 4, 3, 2],
+    [9, 8, 7, 7, 5, 4, 3, 2],
+    [9, 8, 7, 6, 6, 4, 3, 2],
+    [9, 8, 7, 6, 5, 5, 3, 2],
+    [9, 8, 7, 6, 5, 4, 4, 2],
+    [9, 8, 7, 6, 5, 4, 3, 3],
+];
+
 #[test]
-fn a_seed_decides_each_hash(rt: HostRuntime) {
-    for first in 0..50u8 {
-        assert!(rt; hash(&rt, first) == folded(usize::from(first)));
-        assert!(rt; hash(&rt, first) != hash(&rt, first + 1));
+fn each_byte_of_a_seed_decides_a_hash(rt: HostRuntime) {
+    let first = folded(&SEEDS[0]);
+    for (index, seed) in SEEDS.iter().enumerate() {
+        let (state, given) = seeded(seed);
+        let hash = state.expect(&rt, "a seed").hash_one(7u64);
+        assert!(rt; given == 8 && hash == folded(seed), "{index}");
+        assert!(rt; (hash == first) == (index == 0), "{index}");
     }
-    let random = Rising::new(Some(7));
-    assert!(rt; SeededState::new(&random).is_ok() && random.given.get() == 8);
-    assert!(rt; SeededState::new(&Rising::new(None)).is_err());
+    let (state, given) = seeded(&[]);
+    assert!(rt; state.is_err() && given == 0);
 }
