@@ -110,7 +110,9 @@ fn canonical_at_any_depth(rt: HostRuntime) {
 #[test]
 fn canonical_of_deep_objects(rt: HostRuntime) {
     let alloc = rt.alloc();
-    let front = "{\"b\":0,\"a\":".repeat(alloc, 127).expect(&rt, "the openings");
+    let front = "{\"b\":0,\"a\":"
+        .repeat(alloc, 127)
+        .expect(&rt, "the openings");
     let sorted = "{\"a\":".repeat(alloc, 127).expect(&rt, "the openings");
     let closings = "}".repeat(alloc, 127).expect(&rt, "the closings");
     let behind = ",\"b\":0}".repeat(alloc, 127).expect(&rt, "the closings");
