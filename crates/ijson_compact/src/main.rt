@@ -3,17 +3,18 @@
 //! The tests are in `src/tests`.
 #![tactic(auto)]
 
-ghost use Rattle.std.specs.Prelude.{◌≡◌, OnOk, OnErr, IfSome, IfErr, MatchResult, Err};
+ghost use Rattle.std.specs.Prelude.{◌≡◌, ◌≢◌, ◌+◌, ◌^◌, ◌<◌, ◌≤◌, OnOk, OnErr, IfSome, IfErr, Err};
+ghost use Rattle.std.specs.Io.KnownBytes.{Keeps};
 ghost use Rattle.ijson_json.specs.CompactRefusal.{IsCompactRefusal};
-ghost use Rattle.ijson_json.specs.Compacts.{IsCompactLine};
+ghost use Rattle.ijson_json.specs.Compacts.{BeginsLine, WritesLine};
 ghost use Rattle.ijson_json.specs.declared.compacting.CompactError.TheVariants as errors;
 
 use crate::seeded::SeededState;
-use ijson_json::{CompactError, StreamSink, StreamSource, compact_value, report};
+use ijson_json::{CompactError, Source, StreamSink, StreamSource, compact_value, report};
 use ijson_string::StringCache;
 use std::alloc::Global;
 use std::hash::BuildHasher;
-use std::io::{Read, Write};
+use std::io::Write;
 use std::process::ExitCode;
 use std::{io, mem};
 
@@ -21,49 +22,68 @@ mod seeded;
 #[cfg(test)]
 mod tests;
 
-/// Flushes the output after `Ok`, and returns the result.
-///
-/// It is flushed once, and a failed flush counts as a failed write.
-fn flushed<F: FnOnce() -> io::Result<()> + Drop>(
-    answer: Result<(), CompactError>,
-    flush: F,
-) -> Result<(), CompactError>
-    requires { F.IsAlwaysCallable flush }
-    ensures refused { OnErr answer (result ≡ answer) }
-    ensures told { OnOk answer ((outcome : _) × F.post flush outcome
-        × MatchResult outcome (λ _. result ≡ answer) (λ _. result ≡ Err errors.Write)) }
-{
-    answer?;
-    flush().map_err(|_| CompactError::Write)
-}
-
-/// Compacts the bytes of the reader to the writer, and flushes that.
+/// Reads the rest of the input as JSON and writes its line to the output, which it does not flush.
 ///
 /// Input is untrusted, so strings are hashed by `hasher`, which has a random seed; an error in its place counts as a failed read. The
 /// memory of strings and values is not freed.
-fn compact_stream<R: Read + Drop, W: Write + Drop, S: BuildHasher + Drop>(
+fn compact_stream<R: Source, W: Write, S: BuildHasher + Drop>(
     alloc: Global,
     hasher: io::Result<S>,
-    reader: R,
-    writer: W,
+    input: &mut R,
+    output: &mut StreamSink<W>,
 ) -> Result<(), CompactError>
-    ensures done { OnOk result (IfSome (R.remaining reader) (λ bytes. (line : _) × IsCompactLine bytes line)) }
+    requires source { R.failed input.old + 1 < 2 ^ 64 }
+    requires sink { output.old.failed + 1 < 2 ^ 64 }
+    // The writer received the whole line, from the whole rest of the source.
+    ensures done { OnOk result (WritesLine (R.left input.old) (R.left input.new)
+        (W.contents output.old.inner) (W.contents output.new.inner)) }
+    // A failed write leaves a beginning of the line, and any other error leaves the writer unchanged.
+    ensures beginning { result ≡ Err errors.Write
+        → BeginsLine (R.left input.old) (W.contents output.old.inner) (W.contents output.new.inner) }
+    ensures nothing { IfErr result (λ error. error ≢ errors.Write
+        → Keeps (W.contents output.old.inner) (W.contents output.new.inner)) }
     ensures error { IfErr result (λ error.
-        IfSome (R.remaining reader) (λ bytes. IsCompactRefusal bytes error)) }
+        IfSome (R.left input.old) (λ bytes. IsCompactRefusal bytes error)) }
+    ensures count { OnOk result (output.new.failed ≤ output.old.failed) }
 {
-    let hasher = hasher.map_err(|_| CompactError::Read)?;
+    let Ok(hasher) = hasher else {
+        return Err(CompactError::Read);
+    };
     let mut cache = StringCache::new(alloc, hasher);
-    let mut input = StreamSource::new(reader);
-    let mut output = StreamSink::new(writer);
-    let answer = compact_value(alloc, &mut input, &mut output, &mut cache);
+    let answer = compact_value(alloc, input, output, &mut cache);
     // The process ends soon and frees its memory as a whole; freeing strings and values one by one would only take time.
     mem::forget(cache);
-    let mut written = output.into_inner();
-    flushed(answer.map(mem::forget), || written.flush())
+    match answer {
+        Ok(value) => {
+            mem::forget(value);
+            Ok(())
+        }
+        Err(error) => Err(error),
+    }
+}
+
+/// Flushes the output once after `Ok`, and returns the result. A failed flush counts as a failed write.
+fn flushed<W: Write>(
+    answer: Result<(), CompactError>,
+    output: &mut StreamSink<W>,
+) -> Result<(), CompactError>
+    requires { OnOk answer (output.old.failed + 1 < 2 ^ 64) }
+    ensures refused { OnErr answer (result ≡ answer) }
+    ensures error { OnOk answer (IfErr result (λ error. error ≡ errors.Write)) }
+    ensures bytes { Keeps (W.contents output.old.inner) (W.contents output.new.inner) }
+{
+    answer?;
+    match output.flush() {
+        Ok(()) => Ok(()),
+        Err(_) => Err(CompactError::Write),
+    }
 }
 
 fn main(rt: HostRuntime) -> ExitCode {
-    let answer = compact_stream(rt.alloc(), SeededState::new(&rt), rt.stdin(), rt.stdout());
+    let mut input = StreamSource::new(rt.stdin());
+    let mut output = StreamSink::new(rt.stdout());
+    let answer = compact_stream(rt.alloc(), SeededState::new(&rt), &mut input, &mut output);
+    let answer = flushed(answer, &mut output);
     let mut errors = StreamSink::new(rt.stderr());
     ExitCode::from(report(&answer, &mut errors))
 }

@@ -2,8 +2,8 @@
 
 ghost use Rattle.std.specs.Hash.FoldHasher as folding;
 
-use crate::compact_stream;
-use ijson_json::CompactError;
+use crate::{compact_stream, flushed};
+use ijson_json::{CompactError, StreamSink, StreamSource};
 use std::cell::Cell;
 use std::hash::{BuildHasher, FoldHasher};
 use std::io;
@@ -126,11 +126,13 @@ fn streams_are_called_as_often_as_they_must(rt: HostRuntime) {
         } else {
             Ok(CountedState { made: &made })
         };
-        let writer = Counted {
+        let mut input = StreamSource::new(Pieces { pieces, call: 0 });
+        let mut output = StreamSink::new(Counted {
             calls: &calls,
             fails_at,
-        };
-        let answer = compact_stream(rt.alloc(), hasher, Pieces { pieces, call: 0 }, writer);
+        });
+        let answer = compact_stream(rt.alloc(), hasher, &mut input, &mut output);
+        let answer = flushed(answer, &mut output);
         assert!(rt; answer == want);
         assert!(rt; calls.get() == count);
         assert!(rt; made.get() == 0);
@@ -146,16 +148,17 @@ fn strings_are_hashed_by_the_hasher_given(rt: HostRuntime) {
         Some("[\"a longer text\",\"short\",{\"a longer key\":1}]"),
         Some(""),
     ];
-    let reader = Pieces {
+    let mut input = StreamSource::new(Pieces {
         pieces: &pieces,
         call: 0,
-    };
-    let writer = Counted {
+    });
+    let mut output = StreamSink::new(Counted {
         calls: &calls,
         fails_at: 2,
-    };
+    });
     let hasher = Ok(CountedState { made: &made });
-    let answer = compact_stream(rt.alloc(), hasher, reader, writer);
+    let answer = compact_stream(rt.alloc(), hasher, &mut input, &mut output);
+    let answer = flushed(answer, &mut output);
     assert!(rt; answer == Ok(()));
     assert!(rt; calls.get() == 2 && made.get() == 2);
 }
