@@ -326,6 +326,7 @@ fn shifts(rt: &impl Abort, object: &mut IObject, key: &IString) {
 
 /// Reads, writes and removes the value of a key of a value, and inserts it again.
 fn asks_value(rt: &impl Abort, value: &mut IValue, key: &IString) {
+    assert!(rt; value.is_object());
     assert!(rt; matches!(value.get(key), Some(found) if number_of(found) == 98));
     put_number(value.get_mut(key), 98);
     assert!(rt; value.is_object());
@@ -337,6 +338,7 @@ fn asks_value(rt: &impl Abort, value: &mut IValue, key: &IString) {
 
 /// Reads, writes and removes the first element of a value, and appends it again.
 fn asks_elements(rt: &impl Abort, value: &mut IValue) {
+    assert!(rt; value.is_array());
     assert!(rt; matches!(value.get(99usize), Some(found) if number_of(found) == 99));
     put_number(value.get_mut(99usize), 99);
     assert!(rt; value.is_array());
