@@ -5,9 +5,8 @@ ghost use Rattle.ijson_number.specs.Text.{digits_text, num_text, point_text, sci
 
 use crate::repr::INumber;
 use crate::repr::stored::{MAX_DIGITS, place_of};
-use arrayvec::ArrayString;
-use std::fmt;
 use std::fmt::Write;
+use std::{fmt, str};
 
 /// The digit 0, repeated.
 #[derive(Drop)]
@@ -24,18 +23,16 @@ impl fmt::Display for Zeros {
     }
 }
 
-/// Returns the text of at most 20 digits.
-#[tactic(auto, using(std::proofs::lemmas::Str::encode_ascii))]
-pub fn run_text(digits: &[u8]) -> ArrayString<MAX_DIGITS>
+/// The text of at most 20 digits, written into `buffer`.
+pub fn run_text<'a>(digits: &[u8], buffer: &'a mut [u8; MAX_DIGITS]) -> &'a str
     requires below_ten { All (λ d. d < 10) digits.now }
     requires short { length digits.now ≤ 20 }
-    ensures { result.bytes ≡ digits_text digits.now }
+    ensures { result.now ≡ digits_text digits.now }
 {
-    let mut text = ArrayString::new();
     for at in 0..digits.len() {
-        text.push(char::from(b'0' + digits[at]));
+        buffer[at] = b'0' + digits[at];
     }
-    text
+    unsafe { str::from_utf8_unchecked(&buffer[..digits.len()]) }
 }
 
 /// Digits from 0 to 9.
@@ -49,8 +46,9 @@ impl fmt::Display for DigitsText<'_> {
     ghost output = { λ t. Some (digits_text t.digits.now) };
 
     fn fmt<W: fmt::Write>(&self, f: &mut fmt::Formatter<W>) -> fmt::Result {
+        let mut buffer = [0; MAX_DIGITS];
         for run in self.digits.chunks(MAX_DIGITS) {
-            f.write_str(run_text(run).as_str())?;
+            f.write_str(run_text(run, &mut buffer))?;
         }
         Ok(())
     }

@@ -154,10 +154,11 @@ impl StrippedNumber<'_> {
             (split_text self.now.negative self.now.digits.now before) }
     {
         let (whole, fraction) = self.digits.split_at(before);
+        let mut buffer = [0; MAX_DIGITS];
         push_minus(self.negative, out)?;
-        out.push_str(run_text(whole).as_str())?;
+        out.push_str(run_text(whole, &mut buffer))?;
         out.push('.')?;
-        out.push_str(run_text(fraction).as_str())
+        out.push_str(run_text(fraction, &mut buffer))
     }
 
     /// Appends the minus, if there is one, `0.`, `zeros` zeros, and the digits.
@@ -347,8 +348,9 @@ impl StrippedNumber<'_> {
         ensures refused { OnErr result
             (AppendsBeginning (string_bytes out.old) (string_bytes out.new) (digits_text self.now.digits.now)) }
     {
+        let mut buffer = [0; MAX_DIGITS];
         for run in self.digits.chunks(MAX_DIGITS) {
-            out.push_str(run_text(run).as_str())?;
+            out.push_str(run_text(run, &mut buffer))?;
         }
         Ok(self.exponent)
     }

@@ -27,7 +27,7 @@ before_point : (c : In_ok-push_str) → string_bytes c.push_str.new.self
 before_point c =
     both (string_bytes c.args.out.now) (string_bytes c.push_minus.new.out) _ (minus_text c.args.self.now.negative) (whole c)
     c.in_ok-push_minus.ensures.written
-    (rw (← c.split_at.ensures.front, ← c.run_text.ensures, ← c.as_str.ensures.value) c.in_ok-push_str.ensures.bytes)
+    (rw (← c.split_at.ensures.front, ← c.run_text.ensures) c.in_ok-push_str.ensures.bytes)
 
 pub returns-in_err-push_str : goal.returns-in_err-push_str
 returns-in_err-push_str c =
@@ -48,8 +48,8 @@ returns c =
     let old = string_bytes c.args.out.now in
     let minus = minus_text c.args.self.now.negative in
     last_append _ old (string_bytes c.push.new.self) (string_bytes c.push_str-2.new.self) ((minus ++ whole at) ++ 46 ∷ [])
-    c.as_str-2.result.now _
+    c.run_text-2.result.now _
     (both old (string_bytes c.push_str.new.self) _ (minus ++ whole at) (46 ∷ []) (before_point at) c.in_ok-push.ensures.bytes)
-    (by_push_str c.push_str-2.result (string_bytes c.push.new.self) (string_bytes c.push_str-2.new.self) c.as_str-2.result.now
+    (by_push_str c.push_str-2.result (string_bytes c.push.new.self) (string_bytes c.push_str-2.new.self) c.run_text-2.result.now
     c.push_str-2.ensures.bytes)
-    (rw (c.as_str-2.ensures.value, c.run_text-2.ensures, c.split_at.ensures.back, append_assoc (minus ++ whole at), append_assoc minus) refl)
+    (rw (c.run_text-2.ensures, c.split_at.ensures.back, append_assoc (minus ++ whole at), append_assoc minus) refl)

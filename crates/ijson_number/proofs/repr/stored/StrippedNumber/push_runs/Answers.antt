@@ -14,14 +14,14 @@ loop-run-preserved c =
     let rest = chunks_rest c.next.new.self in
     let steps = c.in-Some.ensures.steps in
     let so_far = c.loop-run.invariant.4 in
-    let text = c.as_str.result.now in (
+    let text = c.run_text.result.now in (
       search rules,
       tt,
       steps.0 ∙ c.loop-run.invariant.2,
       back_too (λ d. d < 10) (chunks_rest c.loop-run.run-iterator) c.in-Some.run'.now rest steps.1.0 c.loop-run.invariant.3,
       (
         so_far.0 ++ text,
-        run_more so_far.0 text c.in-Some.run'.now rest _ _ steps.1.0 (c.as_str.ensures.value ∙ c.run_text.ensures) so_far.1,
+        run_more so_far.0 text c.in-Some.run'.now rest _ _ steps.1.0 c.run_text.ensures so_far.1,
         rw (c.in_ok-push_str.ensures.bytes, so_far.2) (append_assoc (string_bytes c.args.out.now) so_far.0 text),
       ),
     )
