@@ -17,8 +17,7 @@ pub struct Significand {
 impl Significand {
     /// Strips trailing zeros while the exponent is below `end`.
     ///
-    /// A magnitude of 0 stays 0, and its exponent becomes `end`. At most 20 steps: call it for 0 only if `end` is at most 20 above the
-    /// exponent.
+    /// It takes at most 20 steps: zero loses a zero in each, so its exponent must be at most 20 below `end`, which it becomes.
     #[inline(always)]
     pub fn strip_trailing_zeros(self, end: i32) -> Significand
         requires steps { self.magnitude ≡ 0 → end ≤ℤ (self.exponent +ℤ pos 20) }

@@ -22,7 +22,7 @@ fn null_alone(alloc: Global, cache: &mut Cache) -> Built
     ijson!(alloc, cache; null)
 }
 
-/// The literal is one expression.
+/// The literal is an expression.
 fn expression_alone<T: ToIValue>(alloc: Global, cache: &mut Cache, x: &T) -> Built
     ensures { IfOk result (λ value. value.tree ≡ T.ToIValue.tree x.now) }
 {

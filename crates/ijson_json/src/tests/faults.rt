@@ -84,7 +84,7 @@ static NUMBER_RANGE: [(&str, usize); 9] = [
     ("1e1073741825-", 0),
     ("[1e1073741825,]", 1),
     ("{\"a\":1e1073741825,\"a\":1}", 5),
-    // more digits than one read of the fast path takes
+    // more digits than the fast path reads
     ("1234567890123456789012345678901234e1073741825", 0),
     ("1.00000000000000000000000000000000e1073741825", 0),
     (

@@ -412,7 +412,7 @@ fn through_object(rt: &impl Abort, alloc: Global, value: IValue) -> IValue {
     value
 }
 
-/// Moves a value out of an iterator over an array, and one over an object.
+/// Moves a value out of an iterator over an array, and a value out of an iterator over an object.
 fn through_iterators(rt: &impl Abort, alloc: Global, value: IValue) -> IValue {
     let mut array = IArray::new(alloc);
     array.push(value).expect(rt, "room");
