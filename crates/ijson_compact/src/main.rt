@@ -9,16 +9,14 @@ ghost use Rattle.ijson_json.specs.CompactRefusal.{IsCompactRefusal};
 ghost use Rattle.ijson_json.specs.Compacts.{BeginsLine, WritesLine};
 ghost use Rattle.ijson_json.specs.declared.compacting.CompactError.TheVariants as errors;
 
-use crate::seeded::SeededState;
 use ijson_json::{CompactError, Source, StreamSink, StreamSource, compact_value, report};
-use ijson_string::StringCache;
+use ijson_string::{SeededState, StringCache};
 use std::alloc::Global;
 use std::hash::BuildHasher;
 use std::io::Write;
 use std::process::ExitCode;
 use std::{io, mem};
 
-mod seeded;
 #[cfg(test)]
 mod tests;
 
@@ -82,7 +80,12 @@ fn flushed<W: Write>(
 fn main(rt: HostRuntime) -> ExitCode {
     let mut input = StreamSource::new(rt.stdin());
     let mut output = StreamSink::new(rt.stdout());
-    let answer = compact_stream(rt.alloc(), SeededState::new(&rt), &mut input, &mut output);
+    let answer = compact_stream(
+        rt.alloc(),
+        SeededState::from_random(&rt),
+        &mut input,
+        &mut output,
+    );
     let answer = flushed(answer, &mut output);
     let mut errors = StreamSink::new(rt.stderr());
     ExitCode::from(report(&answer, &mut errors))

@@ -1,15 +1,13 @@
 //! Immutable strings: up to 7 bytes are inline, and longer strings are shared through a cache.
-//!
-//! The tests are in `src/tests`, those of seeds in `ijson_compact`.
 #![tactic(auto)]
 
 mod block;
 mod cache;
 mod hash;
+mod seeded;
 mod table;
-#[cfg(test)]
-mod tests;
 mod text;
 
 pub use cache::StringCache;
+pub use seeded::SeededState;
 pub use text::IString;

@@ -15,8 +15,10 @@ ghost use Rattle.ijson_value.specs.Tree.{Tree};
 use super::empty_cache;
 use crate::json::{LocatedError, from_json, to_json};
 use crate::pointer::{Unresolved, resolve};
+use crate::string::StringCache;
 use crate::value::IValue;
 use std::alloc::{AllocError, Global};
+use std::hash::BuildHasher;
 use std::process::Abort;
 
 /// Why there is no text.
@@ -50,7 +52,12 @@ fn pointed_in(alloc: Global, value: &IValue, pointer: &str) -> Result<String, Po
 }
 
 /// Returns the text of the value at a pointer in a text.
-fn pointed(alloc: Global, text: &str, pointer: &str) -> Result<String, PointedError>
+fn pointed<S: BuildHasher>(
+    alloc: Global,
+    cache: &mut StringCache<S>,
+    text: &str,
+    pointer: &str,
+) -> Result<String, PointedError>
     ensures found { IfOk result (λ out. (tree : Tree) × Accepted text.now tree × (t : Tree)
         × (resolved tree pointer.now ≡ Some (Some t)) × (string_bytes out ≡ print t)) }
     ensures missing { (why : Unresolved) → result ≡ Err (PointedError.Pointer why)
@@ -58,7 +65,7 @@ fn pointed(alloc: Global, text: &str, pointer: &str) -> Result<String, PointedEr
     ensures refused { (why : LocatedError) → result ≡ Err (PointedError.Text why)
         → (error : JsonError) × Refuses text.now error × Locates text.now error why }
 {
-    match from_json(alloc, &mut empty_cache(alloc), text) {
+    match from_json(alloc, cache, text) {
         Ok(value) => Ok(pointed_in(alloc, &value, pointer)?),
         Err(error) => Err(PointedError::Text(error.locate(text))),
     }
@@ -99,7 +106,8 @@ fn answer(rt: &impl Abort, alloc: Global, found: Result<String, PointedError>) -
 #[test]
 fn values_are_pointed_at(rt: HostRuntime) {
     for &(text, pointer, want) in &POINTED {
-        let found = pointed(rt.alloc(), text, pointer);
+        let mut cache = empty_cache(rt.alloc());
+        let found = pointed(rt.alloc(), &mut cache, text, pointer);
         assert!(rt;
             answer(&rt, rt.alloc(), found).as_str() == want,
             "{text} {pointer}"

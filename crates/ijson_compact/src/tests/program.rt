@@ -139,8 +139,8 @@ fn streams_are_called_as_often_as_they_must(rt: HostRuntime) {
     }
 }
 
-/// A string of more than 7 bytes is hashed once, by the hasher given. `tests/alloc/gives-back` leaves this test out: the program does not
-/// free its value and its cache.
+/// A string of more than 7 bytes is hashed once, by the hasher given. The program does not free its value and its cache, so the gate does
+/// not look at the memory that this test leaves.
 #[test]
 fn strings_are_hashed_by_the_hasher_given(rt: HostRuntime) {
     let (calls, made) = (Cell::new(0), Cell::new(0));

@@ -1,0 +1,53 @@
+//! `SeededState`: a fast hasher with a seed.
+
+ghost use Rattle.std.specs.Prelude.{◌≡◌, ℕ, ◌<◌, ◌^◌, IfOk};
+ghost use Rattle.std.specs.Hash as fed;
+ghost use Rattle.std.specs.Hash.FoldHasher as folding;
+
+use std::hash::{BuildHasher, FoldHasher, Hasher};
+use std::io;
+use std::random::RandomSource;
+
+/// A builder of std's hashers, each of which has been fed one seed.
+///
+/// Strings from strangers need a seed that they don't know, since `FoldHasher` alone is fixed and public.
+#[derive(Clone, Copy, Drop)]
+pub struct SeededState {
+    /// The hasher after the seed.
+    pub start: FoldHasher,
+}
+
+impl SeededState {
+    /// Creates the state of a seed.
+    pub fn new(seed: u64) -> SeededState
+        ensures { result.start ≡ folding.write folding.initial (fed.le_bytes 8 seed) }
+    {
+        let mut start = FoldHasher::default();
+        start.write_u64(seed);
+        SeededState { start }
+    }
+
+    /// Creates the state of eight random bytes.
+    ///
+    /// # Errors
+    ///
+    /// Fails if the source has no random bytes.
+    pub fn from_random(source: &impl RandomSource) -> io::Result<SeededState>
+        ensures { IfOk result (λ state. (seed : ℕ) × (seed < 2 ^ 64)
+            × (state.start ≡ folding.write folding.initial (fed.le_bytes 8 seed))) }
+    {
+        let mut seed = [0; 8];
+        source.fill_bytes(&mut seed)?;
+        Ok(SeededState::new(u64::from_le_bytes(seed)))
+    }
+}
+
+impl BuildHasher for SeededState {
+    type Hasher = FoldHasher;
+
+    ghost build_hasher = { λ s. s.start };
+
+    fn build_hasher(&self) -> FoldHasher {
+        self.start
+    }
+}
