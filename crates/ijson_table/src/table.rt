@@ -1,11 +1,11 @@
 //! A pair store that finds keys by their hash.
 
 ghost use Rattle.std.specs.Prelude.{◌≡◌, ◌+◌, ◌-◌, ◌<◌, ◌≤◌, ◌^◌, [], ◌∷◌, ◌++◌, length, get_or, map};
-ghost use Rattle.std.specs.Prelude.{Err, refl, is_some, IfOk, IsOk, IsTrue, OnErr, ◌↔◌, None};
+ghost use Rattle.std.specs.Prelude.{Err, refl, is_some, IfOk, IsOk, IsTrue, OnErr, OnOk, ◌↔◌, None};
 ghost use Rattle.std.specs.Option.{option_copied};
 ghost use Rattle.std.specs.Slice.Iter.{iter_rest};
 ghost use Rattle.ijson_table.specs.BuildBound.{IsBuildBounded};
-ghost use Rattle.ijson_table.specs.Growth.{capacity_limit};
+ghost use Rattle.ijson_table.specs.Growth.{Grow, Shrink, capacity_limit};
 ghost use Rattle.ijson_table.specs.Inserts.{Inserts};
 ghost use Rattle.ijson_table.specs.Slots.{IsBounded};
 ghost use Rattle.ijson_table.specs.Store.{at, keys_of, IsDistinct, lookup, with_key};
@@ -187,11 +187,7 @@ impl<V: Drop, H: KeyHash> Table<V, H> {
     /// Sets the capacity, to the length or to at least the old one.
     ///
     /// It counts the steps of `slots_with_capacity`. If an allocation fails, nothing changes.
-    pub(crate) fn set_capacity(
-        &mut self,
-        capacity: usize,
-        looks: &mut Looks,
-    ) -> Result<(), AllocError>
+    fn set_capacity(&mut self, capacity: usize, looks: &mut Looks) -> Result<(), AllocError>
         requires room { HasRoom (length self.old.store.pairs) capacity }
         requires grows { length self.old.store.pairs < capacity → self.old.store.capacity ≤ capacity }
         requires fits { looks.old + 2 ^ 72 < 2 ^ 128 }
@@ -206,6 +202,41 @@ impl<V: Drop, H: KeyHash> Table<V, H> {
         }
         drop(mem::replace(&mut self.slots, slots));
         Ok(())
+    }
+
+    /// Like `reserve`, but counts the steps of a growth.
+    ///
+    /// It counts each slot inspected or written, and each comparison of two entries or of two keys in sorting.
+    pub fn reserve_counted(
+        &mut self,
+        additional: usize,
+        looks: &mut Looks,
+    ) -> Result<(), ReserveError>
+        requires fits { looks.old + 2 ^ 72 < 2 ^ 128 }
+        ensures grown { Grow (length self.old.store.pairs) self.old.store.capacity additional result self.new.store.capacity }
+        ensures room { OnOk result (length self.new.store.pairs + additional ≤ self.new.store.capacity) }
+        ensures pairs { self.new.store.pairs ≡ self.old.store.pairs }
+        ensures bounded { OnOk result (IsBuildBounded self.new.store.capacity (looks.new - looks.old)) }
+    {
+        let len = self.pairs.len();
+        match grown_capacity(len, self.pairs.capacity(), additional)? {
+            Some(capacity) => Ok(self.set_capacity(capacity, looks)?),
+            None => Ok(()),
+        }
+    }
+
+    /// Like `shrink_to_fit`, but counts the steps of filling the new slots, as `reserve_counted` does.
+    pub fn shrink_to_fit_counted(&mut self, looks: &mut Looks) -> Result<(), ReserveError>
+        requires fits { looks.old + 2 ^ 72 < 2 ^ 128 }
+        ensures room { Shrink (length self.old.store.pairs) self.old.store.capacity result self.new.store.capacity }
+        ensures pairs { self.new.store.pairs ≡ self.old.store.pairs }
+        ensures bounded { OnOk result (IsBuildBounded self.new.store.capacity (looks.new - looks.old)) }
+    {
+        let len = self.pairs.len();
+        if self.pairs.capacity() == len {
+            return Ok(());
+        }
+        Ok(self.set_capacity(len, looks)?)
     }
 
     /// Appends an entry whose key is new and has this hash, within the spare capacity.
@@ -465,19 +496,11 @@ impl<V: Drop, H: KeyHash> PairStore<V> for Table<V, H> {
     }
 
     fn reserve(&mut self, additional: usize) -> Result<(), ReserveError> {
-        let len = self.pairs.len();
-        match grown_capacity(len, self.pairs.capacity(), additional)? {
-            Some(capacity) => Ok(self.set_capacity(capacity, &mut Looks::new())?),
-            None => Ok(()),
-        }
+        self.reserve_counted(additional, &mut Looks::new())
     }
 
     fn shrink_to_fit(&mut self) -> Result<(), ReserveError> {
-        let len = self.pairs.len();
-        if self.pairs.capacity() == len {
-            return Ok(());
-        }
-        Ok(self.set_capacity(len, &mut Looks::new())?)
+        self.shrink_to_fit_counted(&mut Looks::new())
     }
 
     fn position(&self, key: &str) -> Option<usize> {
