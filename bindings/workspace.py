@@ -21,40 +21,11 @@ OUT = BINDINGS / "out"
 KIT = pathlib.Path(subprocess.run(["rt", "doc"], capture_output=True, text=True, check=True).stdout.strip()).parent
 CRATE = "ijson_c"
 USES = ["simdutf8", "ijson_string", "ijson_table", "ijson_value", "ijson_number", "ijson_json", "ijson_extra"]
-# The example of `ijson` that applies a patch: its files, and where they go in ijson_c.
-EXAMPLE = TOP / "crates/ijson"
-COPIED = {
-    "src/examples/merge_patch.rt": "src/merge_patch.rt",
-    "specs/examples/MergePatch.antt": "specs/MergePatch.antt",
-    "proofs/example_lemmas/Merged.antt": "proofs/Merged.antt",
-    "proofs/examples/merge_patch/+merge/Answers.antt": "proofs/merge_patch/+merge/Answers.antt",
-    "proofs/examples/merge_patch/+merge/Invariants.antt": "proofs/merge_patch/+merge/Invariants.antt",
-}
-# The names in those files that differ in ijson_c.
-RENAMED = {
-    "Rattle.ijson.specs.examples.MergePatch": "Rattle.ijson_c.specs.MergePatch",
-    "Rattle.ijson.proofs.example_lemmas.Merged": "Rattle.ijson_c.proofs.Merged",
-    "Rattle.ijson.proofs.examples.merge_patch": "Rattle.ijson_c.proofs.merge_patch",
-    "use super::{is_written, parsed};\n": "",
-    "use crate::{IObject, IValue};": "use ijson_value::object::IObject;\nuse ijson_value::value::IValue;",
-    "use std::process::Abort;\n": "",
-    "\nfn merge(": "\npub(crate) fn merge(",
-}
 
 
 def run(command, folder, **options):
     """Runs a command, whose output is shown."""
     subprocess.run(command, cwd=folder, check=True, **options)
-
-
-def copy_example(crate):
-    """Copies the example, without its tests, which follow its functions."""
-    for source, target in COPIED.items():
-        text = (EXAMPLE / source).read_text(encoding="utf-8").partition("\n/// Targets, patches")[0]
-        for old, new in RENAMED.items():
-            text = text.replace(old, new)
-        (crate / target).parent.mkdir(parents=True, exist_ok=True)
-        (crate / target).write_text(text.rstrip() + "\n", encoding="utf-8")
 
 
 def assemble(work):
@@ -66,7 +37,6 @@ def assemble(work):
             target = crate / path.relative_to(BINDINGS / CRATE).with_name(path.name.removesuffix(".txt"))
             target.parent.mkdir(parents=True, exist_ok=True)
             shutil.copy(path, target)
-    copy_example(crate)
     return crate
 
 

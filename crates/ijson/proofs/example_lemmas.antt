@@ -1,4 +1,3 @@
 pub mod Documents
-pub mod Merged
 pub mod Records
 pub mod Totals

@@ -13,7 +13,7 @@ pub mod macros;
 
 pub use ijson_convert as convert;
 pub use ijson_convert::{from_value, to_value};
-pub use ijson_extra::{canonical, pointer};
+pub use ijson_extra::{canonical, merge_patch, pointer};
 pub use ijson_number as number;
 pub use ijson_number::{INumber, ParseNumberError};
 pub use ijson_string as string;

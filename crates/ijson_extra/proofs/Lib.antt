@@ -3,5 +3,5 @@ pub mod Pointers
 pub mod lends
 pub mod numbers
 pub mod ordering
-pub mod test_lemmas
+pub mod patching
 pub mod tokens

@@ -4,4 +4,5 @@ pub mod LendsResolved
 pub mod Sorted
 pub mod Canonical
 pub mod OneCanonicalText
+pub mod MergePatch
 pub mod private

@@ -1,9 +1,8 @@
--- JSON Merge Patch on trees (RFC 7396, section 2). A member put with an existing key keeps its index, and one with a new key is appended;
--- after a removal, the members after it are shifted.
-use Rattle.std.specs.Prelude.{ℕ, List, []}
+-- JSON Merge Patch on trees (RFC 7396, section 2). A member put with an existing key keeps its index, and one with a new key is appended.
+use Rattle.std.specs.Prelude.{ℕ, List, [], filter, not}
 use Rattle.std.specs.Option.{unwrap_or}
+use Rattle.std.specs.Str.{bytes_eq}
 use Rattle.ijson_table.specs.Store.{lookup, put}
-use Rattle.ijson_value.specs.AtKey.{shift_out_key}
 use Rattle.ijson_value.specs.Tree.{Tree, null, object, Members, no_members, member, members_of, members_list}
 
 -- the members of an object; any other tree counts as an object without members
@@ -11,9 +10,13 @@ abbrev pub members_in : Tree → List (List ℕ × Tree)
 members_in (object ps) = members_list ps
 members_in _ = []
 
+-- the members but that of a key
+abbrev pub without : List ℕ → List (List ℕ × Tree) → List (List ℕ × Tree)
+without key ms = filter (λ m. not (bytes_eq m.0 key)) ms
+
 -- the members with `value` as the value of a key, or without the key if the patch has null for it
 abbrev pub changed : List (List ℕ × Tree) → List ℕ → Tree → Tree → List (List ℕ × Tree)
-changed ms key null value = shift_out_key key ms
+changed ms key null value = without key ms
 changed ms key patch value = put ms key value
 
 abbrev mutual
