@@ -1,1 +1,2 @@
 mod example_lemmas
+mod test_lemmas

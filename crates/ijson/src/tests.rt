@@ -1,28 +1,53 @@
-//! Tests beyond the clauses: conversions, literals and errors, and failed allocations of conversions and literals.
+//! Tests beyond the clauses, with a folder for each module of the library.
 //!
 //! A test calls `drop` when it is done with a value, which is one step of the proof. At the end of a scope, the proof has a case for each
 //! kind of the value.
 
-mod conversions;
-mod errors;
-mod literal_trees;
-mod literals;
-mod refusals;
-mod serde;
-
-use crate::examples::{Cache, empty_cache, is_written, parsed};
-use crate::string::IString;
-use std::alloc::Global;
-use std::fmt::Debug;
-use std::process::Abort;
-
-/// Returns a string, interned in a cache of its own.
-fn key(rt: &impl Abort, alloc: Global, letters: &str) -> IString {
-    IString::intern(&mut empty_cache(alloc), letters).expect(rt, "a text")
+/// The result of a call, which is repeated if an allocation fails.
+///
+/// The error for that is `AllocError`, or the one given.
+macro_rules! granted {
+    ($rt:expr; $call:expr) => {
+        match $call {
+            Ok(answer) => answer,
+            Err(AllocError) => $call.expect($rt, "an answer"),
+        }
+    };
+    ($rt:expr; $memory:expr; $call:expr) => {
+        match $call {
+            Ok(answer) => answer,
+            Err(refused) => {
+                assert!(*$rt; refused == $memory);
+                $call.expect($rt, "an answer")
+            }
+        }
+    };
 }
 
-/// Asserts the debug output of a value.
-fn is_shown<T: Debug>(rt: &impl Abort, alloc: Global, shown: &T, want: &str) {
-    let text = format!(in alloc; "{shown:?}").expect(rt, "a text");
-    assert!(rt; text.as_str() == want, "{text} is not {want}");
+/// The result of a call that makes a number of allocations, none without that number.
+///
+/// `tests/alloc/modes` counts them.
+macro_rules! counted {
+    ($alloc:expr; $call:expr) => {
+        counted!($alloc; 0; $call)
+    };
+    ($alloc:expr; $count:expr; $call:expr) => {{
+        $crate::tests::support::begin_count($alloc);
+        let answer = $call;
+        $crate::tests::support::end_count($alloc, $count);
+        answer
+    }};
 }
+
+mod array;
+mod canonical;
+mod convert;
+mod json;
+mod merge_patch;
+mod number;
+mod object;
+mod pointer;
+mod string;
+mod support;
+mod table;
+mod value;

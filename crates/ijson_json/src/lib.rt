@@ -1,6 +1,4 @@
 //! JSON text: reading, writing, and compacting from a source to a sink.
-//!
-//! The tests are in `src/tests`, those of error messages in `ijson/src/tests/errors.rt`.
 #![tactic(auto)]
 
 mod compacting;
@@ -11,8 +9,6 @@ mod located;
 mod read;
 mod reporting;
 mod scan;
-#[cfg(test)]
-mod tests;
 mod write;
 
 ghost use Rattle.ijson_json.specs.OneTree.{OneTree};

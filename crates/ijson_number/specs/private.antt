@@ -11,6 +11,7 @@ pub mod Word
 pub mod Stored
 pub mod StrippedNumber
 pub mod MagnitudeOrder
+pub mod WordRows
 pub mod WordText
 pub mod ZerosInFront
 pub mod SplitText

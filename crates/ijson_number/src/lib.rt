@@ -1,10 +1,7 @@
 //! Exact decimals, as JSON writes numbers.
 //!
 //! Each module uses only those before it: `lanes`, `significand`, `repr::stored`, `repr`, `fast_reader`, `general_reader`, `encode`,
-//! `write_display`, `write_fast`, `comparison`, `number`, `integers`, `tests::words`, `tests::numbers`, `tests::numbers::forms`,
-//! `tests::hashes`, `tests::refusals`, `tests::refusals::no_memory`.
-//!
-//! The tests are in `src/tests`.
+//! `write_display`, `write_fast`, `comparison`, `number`, `integers`.
 #![tactic(auto)]
 
 mod comparison;
@@ -16,8 +13,6 @@ mod lanes;
 mod number;
 mod repr;
 mod significand;
-#[cfg(test)]
-mod tests;
 mod write_display;
 mod write_fast;
 

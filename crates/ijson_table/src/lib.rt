@@ -1,6 +1,4 @@
 //! Stores of entries with distinct keys, in insertion order.
-//!
-//! The tests are in `src/tests`.
 #![tactic(auto)]
 
 mod commands;
@@ -13,8 +11,6 @@ mod slot;
 mod sorting;
 mod store;
 mod table;
-#[cfg(test)]
-mod tests;
 mod vec;
 
 pub use commands::{Command, Reply, run};

@@ -7,4 +7,3 @@ pub mod comparing
 pub mod hashing
 pub mod lends
 pub mod pairs
-pub mod test_lemmas

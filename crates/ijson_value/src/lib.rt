@@ -1,6 +1,4 @@
 //! JSON values: arrays, objects with distinct keys, and the value of any of the six kinds.
-//!
-//! The tests are in `src/tests`.
 #![tactic(auto)]
 
 pub mod array;
@@ -10,7 +8,5 @@ mod hash;
 pub mod object;
 mod order;
 mod same;
-#[cfg(test)]
-mod tests;
 pub mod value;
 mod word_fold;

@@ -1,0 +1,4 @@
+pub mod Kept
+pub mod LentPart
+pub mod PutInside
+pub mod TurnedParts

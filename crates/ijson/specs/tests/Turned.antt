@@ -1,0 +1,13 @@
+-- A value opened before and after its Boolean, if it is one, is negated.
+use Rattle.std.specs.Prelude.{◌≡◌, not, ⊤}
+use Rattle.ijson_value.specs.declared.value.destructure.DestructuredMut.{DestructuredMut}
+use Rattle.ijson_value.specs.declared.value.destructure.DestructuredMut.TheVariants.{Null, Bool, Number, String, Array, Object}
+
+abbrev pub IsTurned : DestructuredMut → DestructuredMut → Type 0
+IsTurned Null Null = ⊤
+IsTurned (Bool a) (Bool b) = (a.place.ghost_name ≡ b.place.ghost_name) × (b.place.now ≡ not a.place.now)
+IsTurned (Number a) (Number b) = a ≡ b
+IsTurned (String a) (String b) = a ≡ b
+IsTurned (Array a) (Array b) = a ≡ b
+IsTurned (Object a) (Object b) = a ≡ b
+IsTurned x y = ⊥

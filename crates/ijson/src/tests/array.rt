@@ -1,0 +1,456 @@
+//! Arrays: the result and effect of each call, whichever allocation fails, and callers that know the list by contracts.
+//!
+//! A letter denotes an element: `n` null, `t` true, `f` false, a digit its number, `p` 2.0, and `l` an array of one null, which owns memory.
+ghost use Rattle.std.specs.Prelude.{◌≡◌, [], ◌∷◌, ◌++◌, true, OnOk};
+ghost use Rattle.ijson_value.specs.Values.{null_value, boolean_value};
+
+mod large;
+
+use super::support::{begin_count, end_count, is_shown, set};
+use crate::array::{IArray, IntoIter, Refused};
+use crate::number::{INumber, ParseNumberError};
+use crate::value::IValue;
+use Call::*;
+use std::alloc::{AllocError, Global};
+use std::cmp::Ordering;
+use std::hash::{DefaultHasher, Hash, Hasher};
+use std::mem;
+use std::process::Abort;
+
+/// A call on an array, with the elements of its row if it needs any.
+#[derive(Clone, Copy)]
+enum Call {
+    Push,
+    Insert(usize),
+    /// Replaces an element by its index.
+    Write(usize),
+    Remove(usize),
+    SwapRemove(usize),
+    Pop,
+    Truncate(usize),
+    Clear,
+    Reverse,
+    /// Replaces each element by null, in a loop over mutable references.
+    SetNull,
+    Reserve(usize),
+    ShrinkToFit,
+    Extend,
+    /// The array is replaced by one of the elements, or by its copy.
+    FromIter,
+    FromVec,
+    FromSlice,
+    CloneOf,
+}
+
+/// The content of an array or object, by its letters, and its capacity.
+pub type State = (&'static str, usize);
+
+/// A state, a call, its elements, the element that it returns, and the state then.
+///
+/// A call that keeps the capacity does not allocate.
+type Row = (State, Call, &'static str, &'static str, State);
+
+static ROWS: [Row; 57] = [
+    (("", 7), Clear, "", "", ("", 7)),
+    (("", 0), Insert(0), "n", "", ("n", 4)),
+    (("n", 4), Push, "t", "", ("nt", 4)),
+    (("nt", 4), Insert(1), "f", "", ("nft", 4)),
+    (("", 0), Push, "n", "", ("n", 4)),
+    (("n", 4), Extend, "tfn", "", ("ntfn", 4)),
+    (("ntfn", 4), Push, "t", "", ("ntfnt", 8)),
+    (("ntfnt", 8), Extend, "fnt", "", ("ntfntfnt", 8)),
+    (("ntfntfnt", 8), Push, "f", "", ("ntfntfntf", 16)),
+    (("", 0), Remove(0), "", "", ("", 0)),
+    (("", 0), SwapRemove(0), "", "", ("", 0)),
+    (("", 0), Pop, "", "", ("", 0)),
+    (("", 0), CloneOf, "", "", ("", 0)),
+    (("", 0), FromSlice, "", "", ("", 0)),
+    (("", 0), Extend, "012345678", "", ("012345678", 16)),
+    (("012345678", 16), CloneOf, "", "", ("012345678", 9)),
+    (("ntf", 4), SwapRemove(3), "", "", ("ntf", 4)),
+    (("ntf", 4), Remove(3), "", "", ("ntf", 4)),
+    (("ntf", 4), Remove(1), "", "t", ("nf", 4)),
+    (("nf", 4), Pop, "", "f", ("n", 4)),
+    (("ntf", 4), SwapRemove(0), "", "n", ("ft", 4)),
+    (("ntf", 4), Truncate(5), "", "", ("ntf", 4)),
+    (("ntf", 4), Truncate(1), "", "", ("n", 4)),
+    (("n", 4), Clear, "", "", ("", 4)),
+    (("", 4), ShrinkToFit, "", "", ("", 0)),
+    (("", 0), Reserve(3), "", "", ("", 4)),
+    (("", 4), Push, "0", "", ("0", 4)),
+    (("0", 4), Push, "1", "", ("01", 4)),
+    (("01", 4), Push, "2", "", ("012", 4)),
+    (("12", 2), Insert(0), "0", "", ("012", 4)),
+    (("012", 4), Reserve(20), "", "", ("012", 23)),
+    (("012", 23), ShrinkToFit, "", "", ("012", 3)),
+    (("012", 3), ShrinkToFit, "", "", ("012", 3)),
+    (("", 0), Insert(0), "0", "", ("0", 4)),
+    (("", 3), Clear, "", "", ("", 3)),
+    (("", 3), Extend, "012", "", ("012", 3)),
+    (("012", 3), SwapRemove(0), "", "0", ("21", 3)),
+    (("21", 3), Remove(0), "", "2", ("1", 3)),
+    (("1", 3), Reserve(2), "", "", ("1", 3)),
+    (("1", 3), Insert(0), "n", "", ("n1", 3)),
+    (("n1", 3), Pop, "", "1", ("n", 3)),
+    (("n", 3), Remove(1), "", "", ("n", 3)),
+    (("n", 3), Truncate(1), "", "", ("n", 3)),
+    (("n", 3), FromIter, "nt", "", ("nt", 4)),
+    (("nt", 4), Extend, "ff", "", ("ntff", 4)),
+    (("ntff", 4), Extend, "", "", ("ntff", 4)),
+    (("ntff", 4), Reverse, "", "", ("fftn", 4)),
+    (("fftn", 4), SetNull, "", "", ("nnnn", 4)),
+    (("nnnn", 4), FromIter, "012345678", "", ("012345678", 16)),
+    (("012345678", 16), FromVec, "012", "", ("012", 4)),
+    (("012", 4), Write(1), "l", "1", ("0l2", 4)),
+    (("0l2", 4), FromSlice, "", "", ("0l2", 3)),
+    (("0l2", 3), FromVec, "ntff", "", ("ntff", 4)),
+    (("ntf", 4), SetNull, "", "", ("nnn", 4)),
+    (("tf", 4), Reverse, "", "", ("ft", 4)),
+    (("llll", 4), Truncate(3), "", "", ("lll", 4)),
+    (("lll", 4), CloneOf, "", "", ("lll", 3)),
+];
+
+/// Returns the value of a letter.
+pub fn value_of(rt: &impl Abort, alloc: Global, letter: u8) -> IValue {
+    match letter {
+        b't' => IValue::TRUE,
+        b'f' => IValue::FALSE,
+        b'0'..=b'9' => IValue::from(letter - b'0'),
+        b'p' => {
+            IValue::from(granted!(rt; ParseNumberError::Memory; INumber::from_str(alloc, "2.0")))
+        }
+        b'l' => {
+            let mut list = granted!(rt; IArray::with_capacity(alloc, 1));
+            list.push(IValue::NULL).expect(rt, "room");
+            IValue::from(list)
+        }
+        _ => IValue::NULL,
+    }
+}
+
+/// Returns the letter of a value, or `?` if it has none.
+pub fn letter_of(value: &IValue) -> u8 {
+    match (value.to_usize(), value.to_bool(), value.as_array()) {
+        (Some(2), ..) if value.as_number().is_some_and(INumber::has_decimal_point) => b'p',
+        (Some(number), ..) => b"0123456789".get(number).copied().unwrap_or(b'?'),
+        (_, Some(true), _) => b't',
+        (_, Some(false), _) => b'f',
+        (.., Some(list)) if list.len() == 1 && list[0].is_null() => b'l',
+        _ if value.is_null() => b'n',
+        _ => b'?',
+    }
+}
+
+/// Returns the letter of a removed value.
+pub fn letter_in(value: Option<IValue>) -> Option<u8> {
+    let letter = value.as_ref().map(letter_of);
+    drop(value);
+    letter
+}
+
+/// Returns the array of these letters, of this capacity.
+fn spelled(rt: &impl Abort, alloc: Global, (letters, capacity): (&str, usize)) -> IArray {
+    let mut array = granted!(rt; IArray::with_capacity(alloc, capacity));
+    for letter in letters.bytes() {
+        let item = value_of(rt, alloc, letter);
+        array.push(item).expect(rt, "room");
+    }
+    array
+}
+
+/// Asserts the elements of an array, by each way to read them, and its capacity.
+fn holds(rt: &impl Abort, array: &IArray, (letters, capacity): (&str, usize)) {
+    let len = letters.len();
+    assert!(*rt; array.len() == len && array.iter().len() == len && array.capacity() == capacity);
+    assert!(*rt; array.is_empty() == (len == 0));
+    assert!(*rt; array.as_slice().iter().map(letter_of).eq(letters.bytes()));
+    for (at, letter) in letters.bytes().enumerate() {
+        assert!(*rt; at < array.len() && letter_of(&array[at]) == letter);
+    }
+    for (item, letter) in array.into_iter().zip(letters.bytes()) {
+        assert!(*rt; letter_of(item) == letter);
+    }
+}
+
+/// Makes a call that cannot fail.
+fn changed(array: &mut IArray, call: Call) -> Option<IValue> {
+    match call {
+        Remove(index) => return array.remove(index),
+        SwapRemove(index) => return array.swap_remove(index),
+        Pop => return array.pop(),
+        Truncate(len) => array.truncate(len),
+        Clear => array.clear(),
+        Reverse => array.as_mut_slice().reverse(),
+        _ => {
+            for item in &mut *array {
+                set(item, IValue::NULL);
+            }
+        }
+    }
+    None
+}
+
+/// The element that a call removes, or the element given if an allocation failed.
+type Answer = Result<Option<IValue>, Refused>;
+
+/// Makes a call once. Some calls drop the element given.
+fn called(rt: &impl Abort, alloc: Global, array: &mut IArray, call: Call, item: IValue) -> Answer {
+    match call {
+        Push => array.push(item)?,
+        Insert(index) => {
+            assert!(*rt; index <= array.len());
+            array.insert(index, item)?;
+        }
+        Write(index) => {
+            assert!(*rt; index < array.len());
+            return Ok(Some(mem::replace(&mut array[index], item)));
+        }
+        Reserve(more) => array.reserve(more).map_err(|_| Refused(item))?,
+        ShrinkToFit => array.shrink_to_fit().map_err(|_| Refused(item))?,
+        CloneOf => set(array, array.clone().map_err(|_| Refused(item))?),
+        FromSlice => {
+            let copy = IArray::from_slice(alloc, array.as_slice());
+            set(array, copy.map_err(|_| Refused(item))?);
+        }
+        _ => {
+            drop(item);
+            return Ok(changed(array, call));
+        }
+    }
+    Ok(None)
+}
+
+/// Makes a call, again if an allocation fails, which leaves the array as it was.
+fn made(rt: &impl Abort, alloc: Global, array: &mut IArray, row: Row, item: IValue) -> Option<u8> {
+    let letter = letter_of(&item);
+    letter_in(match called(rt, alloc, array, row.1, item) {
+        Ok(removed) => removed,
+        Err(Refused(item)) => {
+            holds(rt, array, row.0);
+            assert!(*rt; letter_of(&item) == letter);
+            called(rt, alloc, array, row.1, item).expect(rt, "an answer")
+        }
+    })
+}
+
+/// Extends an array by elements, which the last of these letters denote.
+///
+/// If an allocation fails, the array is full of those before the element returned, and is extended by the others.
+fn extends(rt: &impl Abort, alloc: Global, array: &mut IArray, items: IArray, letters: &str) {
+    if let Err(Refused(item)) = array.extend(items) {
+        let len = array.len();
+        assert!(*rt; len == array.capacity());
+        assert!(*rt; array.iter().map(letter_of).eq(letters.bytes().take(len)));
+        assert!(*rt; letters.bytes().nth(len) == Some(letter_of(&item)));
+        array.push(item).expect(rt, "an element");
+        let mut others = spelled(rt, alloc, (letters, letters.len())).into_iter();
+        for _ in 0..=len {
+            drop(others.next());
+        }
+        array.extend(others).expect(rt, "the others");
+    }
+}
+
+/// Returns the array of an iterator, for which the first, the fifth or the ninth element may be returned instead.
+fn of_iterator(rt: &impl Abort, alloc: Global, letters: &str) -> IArray {
+    match IArray::from_iter(alloc, spelled(rt, alloc, (letters, letters.len()))) {
+        Ok(array) => array,
+        Err(Refused(item)) => {
+            let mut first = letters.bytes().step_by(4);
+            assert!(*rt; first.any(|letter| letter == letter_of(&item)));
+            drop(item);
+            let items = spelled(rt, alloc, (letters, letters.len()));
+            IArray::from_iter(alloc, items).expect(rt, "an array")
+        }
+    }
+}
+
+/// Returns the array of a list, which a failed allocation returns.
+fn of_list(rt: &impl Abort, alloc: Global, state: State) -> IArray {
+    let list: Vec<IValue> = granted!(rt; spelled(rt, alloc, state).into_iter().collect(alloc));
+    match counted!(alloc; 1; IArray::from_vec(alloc, list)) {
+        Ok(array) => array,
+        Err(refused) => {
+            assert!(*rt; refused.value.iter().map(letter_of).eq(state.0.bytes()));
+            IArray::from_vec(alloc, refused.value).expect(rt, "an array")
+        }
+    }
+}
+
+/// Makes the call of a row.
+fn makes(rt: &impl Abort, alloc: Global, array: &mut IArray, row: Row) {
+    let (before, call, given, returned, after) = row;
+    let mut items = spelled(rt, alloc, (given, given.len()));
+    let is_quiet = before.1 == after.1;
+    if is_quiet {
+        begin_count(alloc);
+    }
+    match call {
+        Extend => extends(rt, alloc, array, items, after.0),
+        FromIter => set(array, of_iterator(rt, alloc, given)),
+        FromVec => set(array, of_list(rt, alloc, after)),
+        _ => {
+            let item = items.pop().unwrap_or(IValue::NULL);
+            assert!(*rt; made(rt, alloc, array, row, item) == returned.bytes().next());
+        }
+    }
+    holds(rt, array, after);
+    if is_quiet {
+        end_count(alloc, 0);
+    }
+}
+
+pub fn hash_of<T: Hash>(value: &T) -> u64 {
+    let mut hasher = DefaultHasher::new();
+    value.hash(&mut hasher);
+    hasher.finish()
+}
+
+/// Asserts that two values are equal, also in their order and their hashes, which does not allocate.
+pub fn are_same<T: Hash + PartialOrd>(rt: &impl Abort, alloc: Global, one: &T, other: &T) {
+    counted!(alloc; {
+        assert!(*rt; one == other && other == one);
+        assert!(*rt; one.partial_cmp(other) == Some(Ordering::Equal));
+        assert!(*rt; hash_of(one) == hash_of(other));
+    });
+}
+
+/// Moves elements out of an array, which does not allocate, and returns the iterator over the others.
+fn rest_of(rt: &impl Abort, alloc: Global, array: IArray, letters: &str, count: usize) -> IntoIter {
+    begin_count(alloc);
+    let mut items = array.into_iter();
+    for at in 0..count {
+        let left = letters.len().saturating_sub(at);
+        assert!(*rt; items.size_hint() == (left, Some(left)) && items.len() == left);
+        assert!(*rt; letter_in(items.next()) == letters.bytes().nth(at));
+    }
+    end_count(alloc, 0);
+    items
+}
+
+/// Compares an array with another one, and moves all elements out.
+fn ends(rt: &impl Abort, alloc: Global, array: IArray, letters: &str) {
+    let same = spelled(rt, alloc, (letters, letters.len()));
+    are_same(rt, alloc, &array, &same);
+    drop(same);
+    drop(rest_of(rt, alloc, array, letters, letters.len()));
+}
+
+/// A row whose state is not that of the array begins with another one.
+#[test]
+fn calls(rt: HostRuntime) {
+    let alloc = rt.alloc();
+    let mut array = IArray::new(alloc);
+    let mut state = ("", 0);
+    for &row in &ROWS {
+        if row.0 != state {
+            let former = mem::replace(&mut array, spelled(&rt, alloc, row.0));
+            ends(&rt, alloc, former, state.0);
+        }
+        makes(&rt, alloc, &mut array, row);
+        state = row.4;
+    }
+    ends(&rt, alloc, array, state.0);
+}
+
+/// The elements of an array, how many are moved out, and the debug output of its iterator then.
+static GIVEN: [(&str, usize, &str); 5] = [
+    ("tnf", 0, "IntoIter([true, null, false])"),
+    ("tnf", 1, "IntoIter([null, false])"),
+    ("ntf", 5, "IntoIter([])"),
+    ("", 1, "IntoIter([])"),
+    ("lll", 1, "IntoIter([[null], [null]])"),
+];
+
+#[test]
+fn iterators(rt: HostRuntime) {
+    let alloc = rt.alloc();
+    for &(letters, count, shown) in &GIVEN {
+        let array = spelled(&rt, alloc, (letters, letters.len()));
+        let items = rest_of(&rt, alloc, array, letters, count);
+        is_shown(&rt, alloc, &items, shown);
+        drop(items);
+    }
+}
+
+/// Returns `true` if an array has the numbers below `len`, and this capacity.
+fn counts(array: &IArray, len: usize, capacity: usize) -> bool {
+    let mut numbers = array.iter().map(IValue::to_usize).enumerate();
+    array.len() == len
+        && array.capacity() == capacity
+        && numbers.all(|(index, number)| number == Some(index))
+}
+
+/// Pushes numbers onto those before them, each again if an allocation fails.
+fn pushes(rt: &impl Abort, array: &mut IArray, count: usize) {
+    for number in array.len()..count {
+        if let Err(Refused(item)) = array.push(IValue::from(number)) {
+            assert!(*rt; item.to_usize() == Some(number) && counts(array, number, number));
+            array.push(item).expect(rt, "an element");
+        }
+    }
+}
+
+/// Copies and shrinks an array of numbers.
+fn changes_size(rt: &impl Abort, array: &mut IArray, len: usize) {
+    let copy = granted!(rt; array.clone());
+    assert!(*rt; counts(&copy, len, len));
+    drop(copy);
+    granted!(rt; array.shrink_to_fit());
+    assert!(*rt; counts(array, len, len));
+}
+
+/// Returns an array that had each size below `most`.
+///
+/// No clause says that a call succeeds if memory is available, so each small size is tried.
+fn each_size(rt: &impl Abort, alloc: Global, most: usize) -> IArray {
+    let mut array = IArray::new(alloc);
+    for len in 0..most {
+        changes_size(rt, &mut array, len);
+        pushes(rt, &mut array, len + 1);
+    }
+    array
+}
+
+#[test]
+fn sizes(rt: HostRuntime) {
+    drop(each_size(&rt, rt.alloc(), 20));
+    let mut array = IArray::new(rt.alloc());
+    pushes(&rt, &mut array, 70_000);
+    assert!(rt; counts(&array, 70_000, 131_072));
+    drop(array);
+}
+
+/// Inserts, removes and writes elements, and knows the remaining ones.
+fn edited(rt: &impl Abort, alloc: Global, item: IValue) -> IArray
+    ensures { result.items ≡ boolean_value true ∷ item ∷ [] }
+{
+    let mut array = granted!(rt; IArray::with_capacity(alloc, 3));
+    array.push(IValue::NULL).expect(rt, "room");
+    array.push(item).expect(rt, "room");
+    array.insert(1, IValue::FALSE).expect(rt, "room");
+    drop(array.remove(0));
+    array[0] = IValue::TRUE;
+    array
+}
+
+/// Reserves capacity once, so that the pushes after it cannot fail.
+fn push_three(array: &mut IArray) -> Result<(), AllocError>
+    ensures { OnOk result
+        (array.new.items ≡ array.old.items ++ null_value ∷ null_value ∷ null_value ∷ []) }
+{
+    array.reserve(3)?;
+    array.push(IValue::NULL).unwrap();
+    array.push(IValue::NULL).unwrap();
+    array.push(IValue::NULL).unwrap();
+    Ok(())
+}
+
+#[test]
+fn callers(rt: HostRuntime) {
+    let mut array = edited(&rt, rt.alloc(), IValue::FALSE);
+    holds(&rt, &array, ("tf", 3));
+    granted!(&rt; push_three(&mut array));
+    holds(&rt, &array, ("tfnnn", 6));
+    drop(array);
+}

@@ -1,0 +1,54 @@
+//! Each error converts by `?` to an error with its message, and its debug output has its name and fields.
+
+use super::rows;
+use crate::array::Refused;
+use crate::convert::ConvertError;
+use crate::object::{RefusedKey, RefusedPair};
+use crate::pointer::{PointerError, Unresolved};
+use crate::table::ReserveError;
+use crate::tests::support::{is_told, key};
+use crate::value::IValue;
+
+/// Errors of a conversion, the message and the debug output of each.
+static OF_CONVERSIONS: [(ConvertError, &str, &str); 4] = rows![
+    ConvertError::WrongKind => "a value of another kind" => "WrongKind";
+    ConvertError::OutOfRange => "not a whole number in the range of the type" => "OutOfRange";
+    ConvertError::Number => "a number that is neither an i64 nor a u64" => "Number";
+    ConvertError::Memory => "out of memory" => "Memory";
+];
+
+/// Errors of a pointer, the message and the debug output of each.
+static OF_POINTERS: [(Unresolved, &str, &str); 2] = rows![
+    Unresolved::Nothing => "nothing is at the JSON Pointer" => "Nothing";
+    Unresolved::NoPointer(PointerError::Syntax) => "not a JSON Pointer" => "NoPointer(Syntax)";
+];
+
+#[test]
+fn faults_become_errors(rt: HostRuntime) {
+    let alloc = rt.alloc();
+    for &(fault, text, shown) in &OF_CONVERSIONS {
+        is_told(&rt, alloc, fault, text, shown);
+    }
+    for &(fault, text, shown) in &OF_POINTERS {
+        is_told(&rt, alloc, fault, text, shown);
+    }
+    let text = "not a JSON Pointer";
+    is_told(&rt, alloc, PointerError::Syntax, text, "Syntax");
+    let text = "a request for memory was refused";
+    is_told(&rt, alloc, ReserveError::Memory, text, "Memory");
+}
+
+#[test]
+fn refusals_become_errors(rt: HostRuntime) {
+    let alloc = rt.alloc();
+    let (text, shown) = ("no memory for one more item", "Refused(true)");
+    is_told(&rt, alloc, Refused(IValue::TRUE), text, shown);
+    let (key_back, why) = (key(&rt, alloc, "k"), ReserveError::Memory);
+    let text = "the object did not grow for one more key: a request for memory was refused";
+    let shown = "RefusedKey { key: \"k\", why: Memory }";
+    is_told(&rt, alloc, RefusedKey { key: key_back, why }, text, shown);
+    let (key, value, why) = (key(&rt, alloc, "k"), IValue::TRUE, ReserveError::TooLarge);
+    let text = "the store did not grow for one more pair: the capacity would pass 2^56";
+    let shown = "RefusedPair { key: \"k\", value: true, why: TooLarge }";
+    is_told(&rt, alloc, RefusedPair { key, value, why }, text, shown);
+}

@@ -1,0 +1,280 @@
+//! Writing through mutable references, with the signatures of the Rust crate `ijson`. The contract of each caller states the new whole
+//! value. `set_pair`, `set_inside` and `turn_truth` are proved by hand, and their callers are not.
+ghost use Rattle.std.specs.Prelude.{◌≡◌, ◌≢◌, Bool, true, not, IfOk, IfErr, IfSome, OnOk, IsTrue, IsFalse, IsSome, Some, None};
+ghost use Rattle.std.specs.Option.{ghost_name_of};
+ghost use Rattle.std.specs.String.{string_bytes};
+ghost use Rattle.ijson_json.specs.Grammar.{Accepted};
+ghost use Rattle.ijson_json.specs.Print.{print};
+ghost use Rattle.ijson_value.specs.Kind.{kind_of};
+ghost use Rattle.ijson_value.specs.LendsAtKey.{with_key};
+ghost use Rattle.ijson_value.specs.LendsPair.{pair_name};
+ghost use Rattle.ijson_value.specs.NodeValue.{node_value};
+ghost use Rattle.ijson_value.specs.Step.{by_key, kind_for, tree_at, tree_with};
+ghost use Rattle.ijson_value.specs.Tree.{Tree, boolean};
+ghost use Rattle.ijson_value.specs.Values.{boolean_value, null_value};
+ghost use Rattle.ijson_value.specs.declared.value.ValueType.TheVariants as kind;
+ghost use Rattle.ijson_extra.specs.Pointer.{resolved, resolved_with};
+ghost use Rattle.ijson.specs.tests.Turned.{IsTurned};
+
+use crate::json::{JsonError, from_json, to_json};
+use crate::object::{IObject, ObjectIndex, RefusedPair};
+use crate::pointer::resolve_opened_mut;
+use crate::string::IString;
+use crate::tests::convert::rows;
+use crate::tests::support::{empty_cache, is_written, key, parsed};
+use crate::value::{BoolMut, Destructured, DestructuredMut, IValue, ValueIndex};
+use std::alloc::Global;
+use std::process::Abort;
+
+/// Replaces a value by true.
+fn put_true(place: &mut IValue)
+    ensures { place.new ≡ boolean_value true }
+{
+    *place = IValue::TRUE;
+}
+
+/// Replaces the content of a value by true.
+fn put_true_opened(place: &mut Destructured)
+    ensures { node_value place.new ≡ boolean_value true }
+{
+    *place = Destructured::Bool(true);
+}
+
+/// Writes true at a pointer, if it refers to a value. Nothing else changes.
+fn set_named(value: &mut IValue, pointer: &str)
+    ensures there { (t : Tree) → resolved value.old.tree pointer.now ≡ Some (Some t)
+        → value.new.tree ≡ resolved_with value.old.tree pointer.now (boolean true) }
+    ensures missing { ((t : Tree) → resolved value.old.tree pointer.now ≡ Some (Some t) → ⊥)
+        → value.new.tree ≡ value.old.tree }
+{
+    if let Ok(place) = resolve_opened_mut(value, pointer) {
+        put_true_opened(place);
+    }
+}
+
+/// Replaces the value found, if any, by true, and returns its reference.
+fn put_found(found: Option<&mut IValue>) -> Option<&mut IValue>
+    ensures same_reference { ghost_name_of found.entry ≡ ghost_name_of result }
+    ensures written { IfSome result (λ place. place.now ≡ boolean_value true) }
+{
+    match found {
+        Some(place) => {
+            put_true(place);
+            Some(place)
+        }
+        None => None,
+    }
+}
+
+/// Like `put_found`, for the value of an entry.
+fn put_entry<'a>(found: Option<(&'a IString, &'a mut IValue)>) -> Option<&'a mut IValue>
+    ensures same_reference { pair_name found.entry ≡ ghost_name_of result }
+    ensures written { IfSome result (λ place. place.now ≡ boolean_value true) }
+{
+    match found {
+        Some((_, place)) => {
+            put_true(place);
+            Some(place)
+        }
+        None => None,
+    }
+}
+
+/// Writes true as the value of a key. Nothing else changes.
+fn set_pair<I: ObjectIndex>(object: &mut IObject, index: I)
+    ensures { object.new ≡ with_key object.old (I.Sealed.key index) (boolean_value true) }
+{
+    put_entry(index.index_into_mut(object));
+}
+
+/// Writes true as the value of a key, by the entry that is found.
+fn set_found(object: &mut IObject, letters: &str) {
+    if let Some((_, place)) = object.get_key_value_mut(letters) {
+        put_true(place);
+    }
+}
+
+/// Writes true one step inside a value, if there is a value. Nothing else changes.
+fn set_inside<I: ValueIndex>(value: &mut IValue, index: I)
+    requires { kind_of value.old.tree ≡ kind_for (I.Sealed.step index) }
+    ensures there { IsSome (tree_at value.old.tree (I.Sealed.step index))
+        → value.new.tree ≡ tree_with value.old.tree (I.Sealed.step index) (boolean true) }
+    ensures missing { tree_at value.old.tree (I.Sealed.step index) ≡ None → value.new ≡ value.old }
+{
+    put_found(index.index_into_mut(value));
+}
+
+/// Returns the text of `text` with true at a pointer.
+fn with_true(alloc: Global, text: &str, pointer: &str) -> Result<String, JsonError>
+    ensures { IfOk result (λ written. (t : Tree) × Accepted text.now t
+        × ((u : Tree) → resolved t pointer.now ≡ Some (Some u)
+        → string_bytes written ≡ print (resolved_with t pointer.now (boolean true)))) }
+{
+    let mut cache = empty_cache(alloc);
+    let read = from_json(alloc, &mut cache, text);
+    drop(cache);
+    let mut value = read?;
+    set_named(&mut value, pointer);
+    let written = to_json(alloc, &value);
+    drop(value);
+    match written {
+        Ok(written) => Ok(written),
+        Err(_) => Err(JsonError::Memory),
+    }
+}
+
+/// Writes true as the value of a key, by the path of the value, and returns `true` if the key exists.
+#[tactic(auto, using(ijson_value::specs::laws::Steps::tree_with_step))]
+fn set_by_path(value: &mut IValue, key: &str) -> bool
+    requires { kind_of value.old.tree ≡ kind_for (by_key key.now) }
+    ensures there { IsTrue result → value.new.tree ≡ tree_with value.old.tree (by_key key.now) (boolean true) }
+    ensures missing { IsFalse result → value.new ≡ value.old }
+{
+    match IValue::get_mut(value, key) {
+        Some(place) => {
+            put_true(place);
+            true
+        }
+        None => false,
+    }
+}
+
+/// Puts true as the value of a key, by the path of the value.
+///
+/// A new key is appended; if there is no capacity for it, it is returned with null, and the value is unchanged.
+#[tactic(auto, using(crate::proofs::test_lemmas::PutInside::is_kept_inside))]
+fn put_by_path(value: &mut IValue, key: IString) -> Result<(), RefusedPair>
+    requires { kind_of value.old.tree ≡ kind_for (by_key key) }
+    ensures there { OnOk result (value.new.tree ≡ tree_with value.old.tree (by_key key) (boolean true)) }
+    ensures refused { IfErr result (λ refused. (refused.key ≡ key) × (refused.value ≡ null_value)
+        × (value.new.tree ≡ value.old.tree)) }
+{
+    let place = IValue::index_or_insert(value, key)?;
+    put_true(place);
+    Ok(())
+}
+
+/// Negates a Boolean in place, and returns its reference.
+fn turned(truth: BoolMut<'_>) -> BoolMut<'_>
+    ensures same_reference { result.place.ghost_name ≡ truth.entry.place.ghost_name }
+    ensures turned { result.place.now ≡ not truth.entry.place.now }
+{
+    let mut truth = truth;
+    truth.set(!truth.get());
+    truth
+}
+
+/// Negates a Boolean in place, and returns all references.
+fn turned_parts(parts: DestructuredMut<'_>) -> DestructuredMut<'_>
+    ensures { IsTurned parts.entry result }
+{
+    match parts {
+        DestructuredMut::Null => DestructuredMut::Null,
+        DestructuredMut::Bool(truth) => DestructuredMut::Bool(turned(truth)),
+        DestructuredMut::Number(number) => DestructuredMut::Number(number),
+        DestructuredMut::String(string) => DestructuredMut::String(string),
+        DestructuredMut::Array(array) => DestructuredMut::Array(array),
+        DestructuredMut::Object(object) => DestructuredMut::Object(object),
+    }
+}
+
+/// Negates a Boolean. Another value is unchanged.
+fn turn_truth(value: &mut IValue)
+    ensures turned { (truth : Bool) → value.old ≡ boolean_value truth → value.new ≡ boolean_value (not truth) }
+    ensures same { kind_of value.old.tree ≢ kind.Bool → value.new ≡ value.old }
+{
+    turned_parts(value.destructure_mut());
+}
+
+const TEXT: &str = r#"{"a":1,"b":[2]}"#;
+
+/// Keys, whether each exists in `TEXT`, and the text after true is put as its value.
+static WRITTEN: [(&str, bool, &str); 3] = rows![
+    "a" => true => r#"{"a":true,"b":[2]}"#;
+    "b" => true => r#"{"a":1,"b":true}"#;
+    "c" => false => r#"{"a":1,"b":[2],"c":true}"#;
+];
+
+/// Asserts whether a key exists, by the key returned with a mutable value.
+fn is_beside(rt: &impl Abort, object: &mut IObject, letters: &str, there: bool) {
+    let found = object.get_key_value_mut(letters);
+    assert!(*rt; matches!(found, Some((key, _)) if key.eq_str(letters)) == there);
+    let found = ObjectIndex::index_into_mut(letters, object);
+    assert!(*rt; matches!(found, Some((key, _)) if key.eq_str(letters)) == there);
+}
+
+/// Returns `TEXT` as a value, after a look at a key.
+fn object_with(rt: &impl Abort, alloc: Global, letters: &str, there: bool) -> IValue
+    ensures { kind_of result.tree ≡ kind.Object }
+{
+    let mut value = parsed(rt, alloc, TEXT);
+    let object = value.as_object_mut().expect(rt, "an object");
+    is_beside(rt, object, letters, there);
+    assert!(*rt; value.is_object());
+    value
+}
+
+/// Asserts the text after true is written as the value of a key, in the ways that write nothing if the key is missing.
+fn writes(rt: &impl Abort, alloc: Global, letters: &str, there: bool, want: &str) {
+    let mut value = object_with(rt, alloc, letters, there);
+    set_pair(value.as_object_mut().expect(rt, "an object"), letters);
+    is_written(rt, alloc, &value, want);
+    drop(value);
+    let mut value = object_with(rt, alloc, letters, there);
+    set_found(value.as_object_mut().expect(rt, "an object"), letters);
+    is_written(rt, alloc, &value, want);
+    drop(value);
+    let mut value = object_with(rt, alloc, letters, there);
+    set_inside(&mut value, letters);
+    is_written(rt, alloc, &value, want);
+    drop(value);
+    let mut value = object_with(rt, alloc, letters, there);
+    assert!(*rt; set_by_path(&mut value, letters) == there);
+    is_written(rt, alloc, &value, want);
+    drop(value);
+}
+
+/// Asserts the text after true is put as the value of a key, which adds a missing key.
+fn puts(rt: &impl Abort, alloc: Global, letters: &str, there: bool, want: &str) {
+    let mut value = object_with(rt, alloc, letters, there);
+    if let Err(refused) = put_by_path(&mut value, key(rt, alloc, letters)) {
+        is_written(rt, alloc, &value, TEXT);
+        assert!(*rt; refused.key.eq_str(letters) && value.is_object());
+        put_by_path(&mut value, refused.key).expect(rt, "room");
+    }
+    is_written(rt, alloc, &value, want);
+    drop(value);
+}
+
+/// One value changes, and nothing else.
+#[test]
+fn values_beside_keys(rt: HostRuntime) {
+    for &(key, there, put) in &WRITTEN {
+        writes(&rt, rt.alloc(), key, there, if there { put } else { TEXT });
+        puts(&rt, rt.alloc(), key, there, put);
+    }
+}
+
+/// JSON texts, and the text of each after its Boolean is negated.
+static TURNED: [(&str, &str); 7] = rows![
+    "true" => "false"; "false" => "true"; "null" => "null"; "1" => "1"; r#""true""# => r#""true""#; "[true]" => "[true]";
+    r#"{"true":true}"# => r#"{"true":true}"#;
+];
+
+/// A Boolean is negated, and another value is unchanged.
+#[test]
+fn truth_values_turned(rt: HostRuntime) {
+    for &(text, want) in &TURNED {
+        let mut value = parsed(&rt, rt.alloc(), text);
+        turn_truth(&mut value);
+        is_written(&rt, rt.alloc(), &value, want);
+        drop(value);
+    }
+}
+
+/// A text is written with another value in it.
+#[test]
+fn texts_with_another_value(rt: HostRuntime) {
+    let written = granted!(&rt; JsonError::Memory; with_true(rt.alloc(), TEXT, "/b/0"));
+    assert!(rt; written.as_str() == r#"{"a":1,"b":[true]}"#);
+}

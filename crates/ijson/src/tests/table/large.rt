@@ -1,0 +1,52 @@
+//! Sizes far beyond those of the other tests.
+
+use super::crowds::{Chosen, Multiples, inspections, is_sorted, takes_steps};
+use super::script::{all_agree, clears};
+use super::sizes::{ByParity, all_resize, builds, fills, grows_far, takes_many};
+use super::*;
+
+#[test]
+fn each_small_size(rt: HostRuntime) {
+    for count in 0..161 {
+        all_resize(&rt, count);
+    }
+}
+
+#[test]
+fn many_entries(rt: HostRuntime) {
+    fills::<LinearPairs<u64>>(&rt, 2_000, 2_000, false);
+    fills::<Fixed>(&rt, 10_000, 10_000, false);
+    builds::<FixedHash>(&rt, 10_000, true);
+    builds::<FixedHash>(&rt, 3_000, false);
+    builds::<AlwaysZero>(&rt, 3_000, false);
+    // Past the bound of steps, the slots are filled by sorting.
+    fills::<Crowded>(&rt, 2_000, 2_000, true);
+    fills::<Crowded>(&rt, 2_000, 4_000, true);
+    // Of two homes, the second comes first among the new slots, so the entries are not in order.
+    fills::<Table<u64, ByParity>>(&rt, 2_000, 2_000, true);
+}
+
+#[test]
+fn much_room_and_many_numbers(rt: HostRuntime) {
+    each_store!(grows_far(&rt, 3_000_000));
+    takes_many(&rt, 400_000, 524_288, ["399998", "399999", "400000"]);
+}
+
+#[test]
+fn long_lists_of_commands(rt: HostRuntime) {
+    all_agree(&rt, 40, 200);
+    clears(&rt, 2_000_000);
+}
+
+/// 13,560 was computed like the number for 64 keys. One by one, each of the other lists takes at least a million inspections and writes.
+/// Entries with one home slot take 8,006,000; 715 take 32 per entry of the new capacity in growth, and 505 in shrinking.
+#[test]
+fn inspections_are_counted(rt: HostRuntime) {
+    assert!(rt; inspections::<FixedHash>(&rt, Chosen::Digits, 2048) == 13_560);
+    is_sorted::<Multiples>(&rt, Chosen::Digits, 2048);
+    is_sorted::<FixedHash>(&rt, Chosen::Twins, 2048);
+    is_sorted::<FixedHash>(&rt, Chosen::TwinsAgain, 2048);
+    is_sorted::<FixedHash>(&rt, Chosen::TwinsInARow, 2048);
+    is_sorted::<ByLength>(&rt, Chosen::Lengths, 2048);
+    takes_steps(&rt, 4_000, 256_685 + 23_728, 128_270 + 23_728);
+}

@@ -1,0 +1,69 @@
+//! Values from integers and options, and integers from values.
+
+use super::built::Part::{self, Number, Text};
+use super::built::built;
+use crate::tests::support::is_shown;
+use crate::value::IValue;
+use std::alloc::Global;
+use std::process::Abort;
+
+/// Values, and the integer that each denotes. A type of integers without it converts to none.
+static INTEGERS: [(Part, Option<i128>); 12] = [
+    (Number("2.0"), Some(2)),
+    (Number("-1"), Some(-1)),
+    (Number("2.5"), None),
+    (Text("2"), None),
+    (Number("7"), Some(7)),
+    (Number("65535"), Some(65535)),
+    (Number("-2147483648"), Some(-2147483648)),
+    (Number("4294967295"), Some(4294967295)),
+    (Number("-9223372036854775808"), Some(-9223372036854775808)),
+    (Number("9223372036854775807"), Some(9223372036854775807)),
+    (Number("12345678901234567890.0"), Some(12345678901234567890)),
+    (Number("18446744073709551615"), Some(18446744073709551615)),
+];
+
+/// Returns `true` if a value converts to this integer in each type that has it.
+fn is_integer(value: &IValue, integer: Option<i128>) -> bool {
+    value.to_i32() == integer.and_then(|n| i32::try_from(n).ok())
+        && value.to_u32() == integer.and_then(|n| u32::try_from(n).ok())
+        && value.to_i64() == integer.and_then(|n| i64::try_from(n).ok())
+        && value.to_u64() == integer.and_then(|n| u64::try_from(n).ok())
+        && value.to_isize() == integer.and_then(|n| isize::try_from(n).ok())
+        && value.to_usize() == integer.and_then(|n| usize::try_from(n).ok())
+        && value.to_bool().is_none()
+}
+
+#[test]
+fn integers(rt: HostRuntime) {
+    let alloc = rt.alloc();
+    for &(part, integer) in &INTEGERS {
+        let value = built(&rt, alloc, &[part]);
+        assert!(rt; counted!(alloc; is_integer(&value, integer)));
+        drop(value);
+    }
+}
+
+/// Asserts the debug output of a value that was converted.
+fn is_value<T: Into<IValue>>(rt: &impl Abort, alloc: Global, from: T, want: &str) {
+    let value = counted!(alloc; from.into());
+    is_shown(rt, alloc, &value, want);
+    drop(value);
+}
+
+#[test]
+fn integers_and_options_are_values(rt: HostRuntime) {
+    let alloc = rt.alloc();
+    is_value(&rt, alloc, i8::MIN, "-128");
+    is_value(&rt, alloc, i16::MAX, "32767");
+    is_value(&rt, alloc, i32::MIN, "-2147483648");
+    is_value(&rt, alloc, i64::MIN, "-9223372036854775808");
+    is_value(&rt, alloc, isize::MAX, "9223372036854775807");
+    is_value(&rt, alloc, u8::MAX, "255");
+    is_value(&rt, alloc, u16::MAX, "65535");
+    is_value(&rt, alloc, u32::MAX, "4294967295");
+    is_value(&rt, alloc, u64::MAX, "18446744073709551615");
+    is_value(&rt, alloc, usize::MAX, "18446744073709551615");
+    is_value(&rt, alloc, Some(true), "true");
+    is_value(&rt, alloc, None::<u8>, "null");
+}

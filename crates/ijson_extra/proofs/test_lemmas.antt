@@ -1,3 +1,0 @@
-pub mod LentPart
-pub mod PutInside
-pub mod TurnedParts
