@@ -36,14 +36,17 @@ class Tests:
         return [function for function in self.functions if function.is_test and function.name == last and function.module == module]
 
     def reached(self, function):
-        """A function and all functions of its crate's tests that it names, directly or not."""
+        """A function and all functions of its folder of tests, and of those that all folders share, that it names, directly or not."""
         seen, left = set(), [function]
         while left:
             here = left.pop()
             if here not in seen:
                 seen.add(here)
-                left += [other for other in self.functions if other.crate == here.crate and other.name in here.words and not other.is_test]
+                left += [other for other in self.functions if self.is_near(function, other) and other.name in here.words and not other.is_test]
         return seen
+
+    def is_near(self, function, other):
+        return function.crate == other.crate and (other.module[:1] == ["support"] or function.module[:1] == other.module[:1])
 
     def makes(self, function, call):
         """Whether a function itself makes a public call: `Type::name`, `name` or `name!`."""
