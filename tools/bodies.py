@@ -30,11 +30,6 @@ class Tests:
             self.functions += [Function(crate, module, found) for found in FUNCTION.finditer(path.read_text())]
         self.methods = {call.path_name for call in surface.of_all(surface.calls_in) if SELF.search(call.signature)}
 
-    def named(self, name):
-        """The tests of this name: its module below `tests` and its own name."""
-        *module, last = name.split("::")
-        return [function for function in self.functions if function.is_test and function.name == last and function.module == module]
-
     def reached(self, function):
         """A function and all functions of its folder of tests, and of those that all folders share, that it names, directly or not."""
         seen, left = set(), [function]
