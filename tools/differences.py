@@ -7,8 +7,7 @@ the items are missing here; if more follow, they exist but differ. A cell that b
 crate. A type has the type parameters of the Rust crate, and a call its signature, except that it may take `alloc: Global` first, return a `Result`,
 and take an `IString` or an `IValue` instead of an argument that converts into one; else a row names it.
 
-The last section names each public item of the crates that the Rust crate lacks, and nothing else: a module or a type with all its items, and
-of the other types the calls, variants, constants and traits. The calls of an implementation, `Drop` and models are no items of their own.
+The last section of the page is made by tools/pages, from `own_items`.
 
 Prints what is amiss on standard error, and on standard output two counts: the items that are found or named, and what is amiss.
 """
@@ -187,18 +186,25 @@ def amiss_with(line, table, here):
         yield f"docs/from-ijson.md has no row for `{item}`, {difference}"
 
 
-def own_items(upstream):
-    """The public items of the crates that the Rust crate lacks, in the words of the list."""
+def upstream():
+    """The lines of the list."""
+    return [line for line in ITEMS.read_text().splitlines() if line and not line.startswith("#")]
+
+
+def own_items():
+    """The public items of the crates that the Rust crate lacks, in the words of the list: a module or a type with all its items, and of the
+    other types the calls, variants, constants and traits. The calls of an implementation, `Drop` and models are no items of their own."""
+    theirs = {spelled(line.partition(" : ")[0]) for line in upstream()}
     items = {item for item in given_on() if item.startswith("module ")}
     for crate in surface.ORDER:
         sources = list(surface.sources(crate))
         types = {item.name: f"{item.kind} {item.name}" for source in sources for item in surface.types_in(*source)}
-        shared = {name for name in types if any(f"{kind} {name}" in upstream for kind in ("struct", "enum", "trait"))}
+        shared = {name for name in types if any(f"{kind} {name}" in theirs for kind in ("struct", "enum", "trait"))}
         if shared:
             traits = set(re.findall(r"^ *(?:pub )?trait (\w+)", "\n".join(path.read_text() for _, path, _ in sources), re.M))
             items |= {item for name, item in types.items() if name not in shared}
             items |= {item for source in sources for item in parts_in(source, shared, traits - source[2])}
-    return {item for item in items if not stands_in(item, upstream) and not stands_in(re.sub(r"<\w+>", "<I>", item), upstream)}
+    return {item for item in items if not stands_in(item, theirs) and not stands_in(re.sub(r"<\w+>", "<I>", item), theirs)}
 
 
 def parts_in(source, shared, private):
@@ -214,29 +220,15 @@ def parts_in(source, shared, private):
             yield item
 
 
-def named_as_own():
-    """The names of the last section of the page: `Trait of Type`, or a name."""
-    names = set()
-    for line in PAGE.read_text().partition(OWN)[2].splitlines():
-        for part in line.split("|")[2].split(";") if line.startswith("| ") else []:
-            traits, of, types = part.partition(" of ")
-            pairs = {f"{trait} for {owner}" for trait in surface.CODE.findall(traits) for owner in surface.CODE.findall(types)}
-            names |= pairs if of else set(surface.CODE.findall(part))
-    return names
-
-
 def main():
-    items = [line for line in ITEMS.read_text().splitlines() if line and not line.startswith("#")]
+    items = upstream()
     plain = [spelled(line.partition(" : ")[0]) for line in items]
     here, table = found_here(), list(rows())
     amiss = [text for line in items for text in amiss_with(line, table, here)]
     held = len(items) - len(amiss)
     amiss += [f"docs/from-ijson.md names `{name}`, which is no item of the Rust crate" for row in table for name in naming_nothing(row, plain, here)]
-    own = own_items(set(plain))
-    own, named = {re.sub(r"<\w>", "", item.partition(" ")[2]) for item in own}, named_as_own()
-    amiss += [f"docs/from-ijson.md does not list `{item}` as added" for item in sorted(own - named)]
-    amiss += [f"docs/from-ijson.md lists `{item}` as added, and it is not, or is missing" for item in sorted(named - own)]
-    surface.report(held + len(own & named), amiss)
+    surface.report(held, amiss)
 
 
-main()
+if __name__ == "__main__":
+    main()
