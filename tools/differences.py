@@ -187,8 +187,11 @@ def amiss_with(line, table, here):
 
 
 def upstream():
-    """The lines of the list."""
-    return [line for line in ITEMS.read_text().splitlines() if line and not line.startswith("#")]
+    """The items of the list, a call with its signature."""
+    for line in ITEMS.read_text().splitlines():
+        kind, names = re.match(r"(impl .* for|[\w#]+) ?(.*)", line).groups()
+        if kind != "#":
+            yield from [line] if kind == "call" else (f"{kind} {name}" for name in surface.split_at_commas(names))
 
 
 def own_items():
@@ -221,7 +224,7 @@ def parts_in(source, shared, private):
 
 
 def main():
-    items = upstream()
+    items = list(upstream())
     plain = [spelled(line.partition(" : ")[0]) for line in items]
     here, table = found_here(), list(rows())
     amiss = [text for line in items for text in amiss_with(line, table, here)]
