@@ -9,6 +9,7 @@ amiss on standard error, and on standard output two counts: the calls that are m
 import re
 
 import bodies
+import clauses
 import surface
 
 # The folders of tests of a section.
@@ -16,6 +17,7 @@ FOLDERS = {"ijson_value": {"array", "object", "value"}, "ijson_extra": {"canonic
 # Calls that tests make by another call, which does nothing else with its arguments.
 BY = {"PairStore::reserve": "run", "ToIValue::to_ivalue": "to_value", "FromIValue::from_ivalue": "from_value"}
 ASSERTION = re.compile(r"\bassert(?:_eq|_ne)?!")
+ON_ERROR = re.compile(r"\b(?:IfErr|OnErr|IsErr|Err)\b")
 RETURN = re.compile(r"\breturn\b|\?;")
 
 
@@ -26,16 +28,17 @@ def refusal(signature):
 
 
 def expected():
-    """The error type of each public call that can fail, and its comment, by crate and call."""
+    """The error type of each public call that can fail, its comment, and the names of its clauses that speak of the error, by crate and call."""
     found, traits = {}, {item.name for item in surface.of_all(surface.types_in) if item.kind == "trait"}
     for call in surface.of_all(surface.calls_in):
         if refusal(call.signature) and call.trait not in traits:
-            found[call.crate, call.path_name] = refusal(call.signature), call.sentence
+            names = [name for kind, name, text in clauses.clauses_of(call) if kind != "requires" and name and ON_ERROR.search(text)]
+            found[call.crate, call.path_name] = refusal(call.signature), call.sentence, names
     lines = (surface.TOP / "crates/ijson/src/macros.rt").read_text().splitlines()
     for at, line in enumerate(lines):
         comment = surface.doc_above(lines, at) if line.startswith("macro_rules! ") else ""
         if "`Result<" in comment:
-            found["ijson", f"{line.split()[1]}!"] = re.search(r"`Result<\w+, (\w+)>`", comment)[1], comment
+            found["ijson", f"{line.split()[1]}!"] = re.search(r"`Result<\w+, (\w+)>`", comment)[1], comment, []
     return found
 
 
