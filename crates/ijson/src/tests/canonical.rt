@@ -2,7 +2,6 @@
 
 mod large;
 
-use super::convert::rows;
 use super::support::{empty_cache, is_written, parsed};
 use crate::array::IArray;
 use crate::canonical::canonical_json;
@@ -15,39 +14,41 @@ use std::process::Abort;
 /// JSON texts and the canonical text of each.
 ///
 /// Keys are in byte order. `\u{10000}` is last, although it is first in UTF-16, and `"` is first, although it is not if both are escaped.
-static TEXTS: [(&str, &str); 12] = rows![
-    r#"{"b":2.0,"a":[10,0.0]}"# => r#"{"a":[1e1,0],"b":2e0}"#;
-    r#"{"a":-0.5,"b":100,"c":[1.50]}"# => r#"{"a":-5e-1,"b":1e2,"c":[15e-1]}"#;
-    r#"{"é":1,"z":2}"# => r#"{"z":2e0,"é":1e0}"#;
-    "10e1073741823" => "1e1073741824";
-    "-0.0" => "0";
-    "12345678901234567890.5" => "123456789012345678905e-1";
-    "{\"\u{10000}\":null,\"\u{ffff}\":true}" => "{\"\u{ffff}\":true,\"\u{10000}\":null}";
-    r#"{"A":[],"\"":{}}"# => r#"{"\"":{},"A":[]}"#;
-    r#"[{"b":{"d":"\n","c":false},"a":{"ab":[],"":{}}}]"# => r#"[{"a":{"":{},"ab":[]},"b":{"c":false,"d":"\n"}}]"#;
-    r#"{"abcdz":0,"abcd":1,"abc":2,"abc\u0000":3,"abcdé":4,"abcz":5,"abcé":6,"":7}"#
-        => r#"{"":7e0,"abc":2e0,"abc\u0000":3e0,"abcd":1e0,"abcdz":0,"abcdé":4e0,"abcz":5e0,"abcé":6e0}"#;
-    "{\"abcdefghi\":0,\"abcdefgh\":1,\"abcdefg\":2,\"abcdefgha\":3,\"\":4,\"\\u0000\":5,\"é\":6,\"z\":7,\
-     \"a\":8,\"a\\u0000\":9,\"abcdefghé\":10,\"abcdefgh\\u0000\":11}"
-        => "{\"\":4e0,\"\\u0000\":5e0,\"a\":8e0,\"a\\u0000\":9e0,\"abcdefg\":2e0,\"abcdefgh\":1e0,\
-            \"abcdefgh\\u0000\":11e0,\"abcdefgha\":3e0,\"abcdefghi\":0,\"abcdefghé\":1e1,\"z\":7e0,\"é\":6e0}";
-    "{\"key:abcdefghi\":0,\"key:abcdefgh\":1,\"key:abcdefg\":2,\"key:abcdefgha\":3,\"key:\":4,\
+#[rattlefmt::skip]
+static TEXTS: [(&str, &str); 12] = [
+    (r#"{"b":2.0,"a":[10,0.0]}"#, r#"{"a":[1e1,0],"b":2e0}"#),
+    (r#"{"a":-0.5,"b":100,"c":[1.50]}"#, r#"{"a":-5e-1,"b":1e2,"c":[15e-1]}"#),
+    (r#"{"é":1,"z":2}"#, r#"{"z":2e0,"é":1e0}"#),
+    ("10e1073741823", "1e1073741824"),
+    ("-0.0", "0"),
+    ("12345678901234567890.5", "123456789012345678905e-1"),
+    ("{\"\u{10000}\":null,\"\u{ffff}\":true}", "{\"\u{ffff}\":true,\"\u{10000}\":null}"),
+    (r#"{"A":[],"\"":{}}"#, r#"{"\"":{},"A":[]}"#),
+    (r#"[{"b":{"d":"\n","c":false},"a":{"ab":[],"":{}}}]"#, r#"[{"a":{"":{},"ab":[]},"b":{"c":false,"d":"\n"}}]"#),
+    (r#"{"abcdz":0,"abcd":1,"abc":2,"abc\u0000":3,"abcdé":4,"abcz":5,"abcé":6,"":7}"#,
+     r#"{"":7e0,"abc":2e0,"abc\u0000":3e0,"abcd":1e0,"abcdz":0,"abcdé":4e0,"abcz":5e0,"abcé":6e0}"#),
+    ("{\"abcdefghi\":0,\"abcdefgh\":1,\"abcdefg\":2,\"abcdefgha\":3,\"\":4,\"\\u0000\":5,\"é\":6,\"z\":7,\
+     \"a\":8,\"a\\u0000\":9,\"abcdefghé\":10,\"abcdefgh\\u0000\":11}",
+     "{\"\":4e0,\"\\u0000\":5e0,\"a\":8e0,\"a\\u0000\":9e0,\"abcdefg\":2e0,\"abcdefgh\":1e0,\
+      \"abcdefgh\\u0000\":11e0,\"abcdefgha\":3e0,\"abcdefghi\":0,\"abcdefghé\":1e1,\"z\":7e0,\"é\":6e0}"),
+    ("{\"key:abcdefghi\":0,\"key:abcdefgh\":1,\"key:abcdefg\":2,\"key:abcdefgha\":3,\"key:\":4,\
      \"key:\\u0000\":5,\"key:é\":6,\"key:z\":7,\"key:a\":8,\"key:a\\u0000\":9,\"key:abcdefghé\":10,\
-     \"key:abcdefgh\\u0000\":11}"
-        => "{\"key:\":4e0,\"key:\\u0000\":5e0,\"key:a\":8e0,\"key:a\\u0000\":9e0,\"key:abcdefg\":2e0,\
-            \"key:abcdefgh\":1e0,\"key:abcdefgh\\u0000\":11e0,\"key:abcdefgha\":3e0,\"key:abcdefghi\":0,\
-            \"key:abcdefghé\":1e1,\"key:z\":7e0,\"key:é\":6e0}";
+     \"key:abcdefgh\\u0000\":11}",
+     "{\"key:\":4e0,\"key:\\u0000\":5e0,\"key:a\":8e0,\"key:a\\u0000\":9e0,\"key:abcdefg\":2e0,\
+      \"key:abcdefgh\":1e0,\"key:abcdefgh\\u0000\":11e0,\"key:abcdefgha\":3e0,\"key:abcdefghi\":0,\
+      \"key:abcdefghé\":1e1,\"key:z\":7e0,\"key:é\":6e0}"),
 ];
 
 /// Texts that are written as they are read, and their canonical texts.
 ///
 /// The second exceeds the initial capacity of a canonical text, and its second object the list of the first one.
-static KEPT: [(&str, &str); 2] = rows![
-    r#"{"b":{"d":2.0,"c":[10,0.0]},"a":"longlong"}"# => r#"{"a":"longlong","b":{"c":[1e1,0],"d":2e0}}"#;
-    "[{\"b\":1,\"a\":2},{\"f\":1,\"e\":2,\"d\":3,\"c\":4,\"b\":5,\"a\":6},\
-     \"abcdefghijklmnopqrstuvwxyz0123456789ABCDEFGHIJKLMNOPQRSTUVWXYZ9876543210\"]"
-        => "[{\"a\":2e0,\"b\":1e0},{\"a\":6e0,\"b\":5e0,\"c\":4e0,\"d\":3e0,\"e\":2e0,\"f\":1e0},\
-            \"abcdefghijklmnopqrstuvwxyz0123456789ABCDEFGHIJKLMNOPQRSTUVWXYZ9876543210\"]";
+#[rattlefmt::skip]
+static KEPT: [(&str, &str); 2] = [
+    (r#"{"b":{"d":2.0,"c":[10,0.0]},"a":"longlong"}"#, r#"{"a":"longlong","b":{"c":[1e1,0],"d":2e0}}"#),
+    ("[{\"b\":1,\"a\":2},{\"f\":1,\"e\":2,\"d\":3,\"c\":4,\"b\":5,\"a\":6},\
+     \"abcdefghijklmnopqrstuvwxyz0123456789ABCDEFGHIJKLMNOPQRSTUVWXYZ9876543210\"]",
+     "[{\"a\":2e0,\"b\":1e0},{\"a\":6e0,\"b\":5e0,\"c\":4e0,\"d\":3e0,\"e\":2e0,\"f\":1e0},\
+      \"abcdefghijklmnopqrstuvwxyz0123456789ABCDEFGHIJKLMNOPQRSTUVWXYZ9876543210\"]"),
 ];
 
 /// Asserts the canonical text of a value.

@@ -1,12 +1,5 @@
 //! Conversions from Rust values and to them.
 
-/// An array of tuples, whose cells are separated by `=>` and whose rows by `;`. The formatter leaves its lines as they are.
-macro_rules! rows {
-    ($($($cell:expr) => +);* $(;)?) => {
-        [$(($($cell),+)),*]
-    };
-}
-
 /// The result of a conversion, which is repeated if an allocation fails.
 macro_rules! settled {
     ($call:expr) => {
@@ -28,7 +21,6 @@ use crate::pointer::Pointer;
 use crate::string::IString;
 use crate::value::IValue;
 use indexmap::IndexMap;
-pub(super) use rows;
 use serde::there_and_back;
 use std::alloc::{AllocError, Global};
 use std::collections::{BTreeMap, HashMap};
@@ -47,9 +39,10 @@ fn used_cache(rt: &impl Abort, alloc: Global) -> Cache {
 }
 
 /// The strings of the tests that are interned, since they have more than seven bytes, and a part of each as it is written.
-static LONG: [(&str, &str); 5] = rows![
-    "longlong" => "longlong"; "eight888" => "eight888"; "a text of many bytes" => "a text of many bytes";
-    "a key of many bytes" => "a key of many bytes"; "a \"text\" of many bytes" => r#"a \"text\" of many bytes"#;
+#[rattlefmt::skip]
+static LONG: [(&str, &str); 5] = [
+    ("longlong", "longlong"), ("eight888", "eight888"), ("a text of many bytes", "a text of many bytes"),
+    ("a key of many bytes", "a key of many bytes"), ("a \"text\" of many bytes", r#"a \"text\" of many bytes"#),
 ];
 
 /// Asserts that a cache contains its one string and the long strings of a text, and no others.
@@ -179,21 +172,21 @@ const PAST: Converted<&str> = Err(ConvertError::OutOfRange);
 const WRONG_KIND: Converted<&str> = Err(ConvertError::WrongKind);
 
 /// Types; a text, and the text of its value read as the type and converted back, or the error.
-static READ: [(Type, &str, Converted<&str>); 25] = rows![
-    Type::Truth => "true" => Ok("true"); Type::Truth => "false" => Ok("false");
-    Type::Truth => "0" => WRONG_KIND; Type::Truth => "null" => WRONG_KIND;
-    Type::Integer => "2.0" => Ok("2"); Type::Integer => "2.5" => PAST; Type::Integer => "\"x\"" => WRONG_KIND;
-    Type::Text => r#""a text of many bytes""# => Ok(r#""a text of many bytes""#);
-    Type::Text => r#""eight888""# => Ok(r#""eight888""#);
-    Type::Text => r#""""# => Ok(r#""""#); Type::Text => "1" => WRONG_KIND; Type::Text => r#"["a"]"# => WRONG_KIND;
-    Type::Options => "[1,null,2.0]" => Ok("[1,null,2]"); Type::Options => "{}" => WRONG_KIND;
-    Type::Bytes => r#"[1,256,"x"]"# => PAST; Type::Bytes => r#"[1,"x",256]"# => WRONG_KIND;
-    Type::Truths => r#"{"b":true,"a":false}"# => Ok(r#"{"a":false,"b":true}"#);
-    Type::Truths => r#"{"b":true,"a":1}"# => WRONG_KIND; Type::Truths => "[]" => WRONG_KIND;
-    Type::Lists => r#"{"b":[1,null],"eight888":[],"a":[-2.0]}"# => Ok(r#"{"a":[-2],"b":[1,null],"eight888":[]}"#);
-    Type::Lists => r#"{"a":[1,null],"b":[],"eight888":[-2]}"# => Ok(r#"{"a":[1,null],"b":[],"eight888":[-2]}"#);
-    Type::Lists => "{}" => Ok("{}"); Type::Lists => r#"{"a":null}"# => WRONG_KIND;
-    Type::Lists => r#"{"b":[1,2.5],"a":[true]}"# => PAST; Type::Lists => r#"{"a":[1,true],"b":[2.5]}"# => WRONG_KIND;
+#[rattlefmt::skip]
+static READ: [(Type, &str, Converted<&str>); 25] = [
+    (Type::Truth, "true", Ok("true")), (Type::Truth, "false", Ok("false")), (Type::Truth, "0", WRONG_KIND),
+    (Type::Truth, "null", WRONG_KIND), (Type::Integer, "2.0", Ok("2")), (Type::Integer, "2.5", PAST),
+    (Type::Integer, "\"x\"", WRONG_KIND), (Type::Text, r#""a text of many bytes""#, Ok(r#""a text of many bytes""#)),
+    (Type::Text, r#""eight888""#, Ok(r#""eight888""#)), (Type::Text, r#""""#, Ok(r#""""#)),
+    (Type::Text, "1", WRONG_KIND), (Type::Text, r#"["a"]"#, WRONG_KIND),
+    (Type::Options, "[1,null,2.0]", Ok("[1,null,2]")), (Type::Options, "{}", WRONG_KIND),
+    (Type::Bytes, r#"[1,256,"x"]"#, PAST), (Type::Bytes, r#"[1,"x",256]"#, WRONG_KIND),
+    (Type::Truths, r#"{"b":true,"a":false}"#, Ok(r#"{"a":false,"b":true}"#)),
+    (Type::Truths, r#"{"b":true,"a":1}"#, WRONG_KIND), (Type::Truths, "[]", WRONG_KIND),
+    (Type::Lists, r#"{"b":[1,null],"eight888":[],"a":[-2.0]}"#, Ok(r#"{"a":[-2],"b":[1,null],"eight888":[]}"#)),
+    (Type::Lists, r#"{"a":[1,null],"b":[],"eight888":[-2]}"#, Ok(r#"{"a":[1,null],"b":[],"eight888":[-2]}"#)),
+    (Type::Lists, "{}", Ok("{}")), (Type::Lists, r#"{"a":null}"#, WRONG_KIND),
+    (Type::Lists, r#"{"b":[1,2.5],"a":[true]}"#, PAST), (Type::Lists, r#"{"a":[1,true],"b":[2.5]}"#, WRONG_KIND),
 ];
 
 /// Returns the value of a text read as a `T`, or the error.
@@ -239,14 +232,14 @@ fn values_are_read_as_their_types(rt: HostRuntime) {
 }
 
 /// Integers, and the number of bits of the smallest signed and unsigned type with each, 128 if none has it.
-static INTEGERS: [(&str, u8, u8); 26] = rows![
-    "-9223372036854775809" => 128 => 128; "-9223372036854775808" => 64 => 128;
-    "-2147483649" => 64 => 128; "-2147483648" => 32 => 128; "-32769" => 32 => 128; "-32768" => 16 => 128;
-    "-129" => 16 => 128; "-128" => 8 => 128; "-1" => 8 => 128; "0" => 8 => 8; "127" => 8 => 8; "128" => 16 => 8;
-    "255" => 16 => 8; "256" => 16 => 16; "32767" => 16 => 16; "32768" => 32 => 16; "65535" => 32 => 16;
-    "65536" => 32 => 32; "2147483647" => 32 => 32; "2147483648" => 64 => 32; "4294967295" => 64 => 32;
-    "4294967296" => 64 => 64; "9223372036854775807" => 64 => 64; "9223372036854775808" => 128 => 64;
-    "18446744073709551615" => 128 => 64; "18446744073709551616" => 128 => 128;
+#[rattlefmt::skip]
+static INTEGERS: [(&str, u8, u8); 26] = [
+    ("-9223372036854775809", 128, 128), ("-9223372036854775808", 64, 128), ("-2147483649", 64, 128),
+    ("-2147483648", 32, 128), ("-32769", 32, 128), ("-32768", 16, 128), ("-129", 16, 128), ("-128", 8, 128),
+    ("-1", 8, 128), ("0", 8, 8), ("127", 8, 8), ("128", 16, 8), ("255", 16, 8), ("256", 16, 16), ("32767", 16, 16),
+    ("32768", 32, 16), ("65535", 32, 16), ("65536", 32, 32), ("2147483647", 32, 32), ("2147483648", 64, 32),
+    ("4294967295", 64, 32), ("4294967296", 64, 64), ("9223372036854775807", 64, 64), ("9223372036854775808", 128, 64),
+    ("18446744073709551615", 128, 64), ("18446744073709551616", 128, 128),
 ];
 
 /// Asserts that an integer is read as a `T` exactly if the type has it, and that its value has the same text.

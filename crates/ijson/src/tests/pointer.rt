@@ -2,7 +2,6 @@
 
 mod lent;
 
-use super::convert::rows;
 use super::support::{is_written, parsed, set};
 use crate::pointer::{Pointer, PointerError, Unresolved, resolve, resolve_mut, resolve_opened_mut};
 use crate::table::ReserveError;
@@ -18,17 +17,16 @@ const DEEP: &str = r#"[[[0,{"a":[1,[2]]}]],3]"#;
 const NULLS: &str = r#"{"a":null,"m~/n":[null]}"#;
 
 /// Texts and pointers; the text of the value there, and the text after true is written there.
-static PLACES: [(&str, &str, &str, &str); 10] = rows![
-    TEXT => "" => TEXT => "true";
-    TEXT => "/foo" => r#"["bar","baz"]"# => r#"{"foo":true,"":0,"a/b":1,"m~n":8,"~1":9}"#;
-    TEXT => "/foo/0" => r#""bar""# => r#"{"foo":[true,"baz"],"":0,"a/b":1,"m~n":8,"~1":9}"#;
-    TEXT => "/" => "0" => r#"{"foo":["bar","baz"],"":true,"a/b":1,"m~n":8,"~1":9}"#;
-    TEXT => "/a~1b" => "1" => r#"{"foo":["bar","baz"],"":0,"a/b":true,"m~n":8,"~1":9}"#;
-    TEXT => "/m~0n" => "8" => r#"{"foo":["bar","baz"],"":0,"a/b":1,"m~n":true,"~1":9}"#;
-    TEXT => "/~01" => "9" => r#"{"foo":["bar","baz"],"":0,"a/b":1,"m~n":8,"~1":true}"#;
-    DEEP => "/0/0/1/a/1/0" => "2" => r#"[[[0,{"a":[1,[true]]}]],3]"#;
-    NULLS => "/a" => "null" => r#"{"a":true,"m~/n":[null]}"#;
-    NULLS => "/m~0~1n/0" => "null" => r#"{"a":null,"m~/n":[true]}"#;
+#[rattlefmt::skip]
+static PLACES: [(&str, &str, &str, &str); 10] = [
+    (TEXT, "", TEXT, "true"), (TEXT, "/foo", r#"["bar","baz"]"#, r#"{"foo":true,"":0,"a/b":1,"m~n":8,"~1":9}"#),
+    (TEXT, "/foo/0", r#""bar""#, r#"{"foo":[true,"baz"],"":0,"a/b":1,"m~n":8,"~1":9}"#),
+    (TEXT, "/", "0", r#"{"foo":["bar","baz"],"":true,"a/b":1,"m~n":8,"~1":9}"#),
+    (TEXT, "/a~1b", "1", r#"{"foo":["bar","baz"],"":0,"a/b":true,"m~n":8,"~1":9}"#),
+    (TEXT, "/m~0n", "8", r#"{"foo":["bar","baz"],"":0,"a/b":1,"m~n":true,"~1":9}"#),
+    (TEXT, "/~01", "9", r#"{"foo":["bar","baz"],"":0,"a/b":1,"m~n":8,"~1":true}"#),
+    (DEEP, "/0/0/1/a/1/0", "2", r#"[[[0,{"a":[1,[true]]}]],3]"#),
+    (NULLS, "/a", "null", r#"{"a":true,"m~/n":[null]}"#), (NULLS, "/m~0~1n/0", "null", r#"{"a":null,"m~/n":[true]}"#),
 ];
 
 /// Asserts the text of the value at a pointer.
@@ -109,12 +107,13 @@ fn values_are_read_and_written(rt: HostRuntime) {
 }
 
 /// Pointers to no value in `TEXT`.
-static NOTHING: [&str; 9] = rows![
-    "/foo/2"; "/foo/-"; "/foo/01"; "/foo/99999999999999999999"; "/foo/0/x"; "/foo/+1"; "/foo/"; "/nope"; "/nope/nope";
+#[rattlefmt::skip]
+static NOTHING: [&str; 9] = [
+    "/foo/2", "/foo/-", "/foo/01", "/foo/99999999999999999999", "/foo/0/x", "/foo/+1", "/foo/", "/nope", "/nope/nope",
 ];
 
 /// Texts that are not pointers.
-static NO_POINTERS: [&str; 6] = rows!["foo"; "/~"; "/~2"; "/nope/~2"; "/foo/0/~"; "~0"];
+static NO_POINTERS: [&str; 6] = ["foo", "/~", "/~2", "/nope/~2", "/foo/0/~", "~0"];
 
 /// Asserts that there is no value at a pointer, for this reason.
 fn is_missing(rt: &impl Abort, alloc: Global, value: &mut IValue, pointer: &str, why: Unresolved) {
@@ -150,9 +149,10 @@ const RFC: &str =
     r#"{"foo":["bar","baz"],"":0,"a/b":1,"c%d":2,"e^f":3,"g|h":4,"i\\j":5,"k\"l":6," ":7,"m~n":8}"#;
 
 /// Pointers, and the text of the value of each in `RFC`.
-static NAMED: [(&str, &str); 12] = rows![
-    "" => RFC; "/foo" => r#"["bar","baz"]"#; "/foo/0" => r#""bar""#; "/" => "0"; "/a~1b" => "1"; "/c%d" => "2"; "/e^f" => "3";
-    "/g|h" => "4"; r"/i\j" => "5"; "/k\"l" => "6"; "/ " => "7"; "/m~0n" => "8";
+#[rattlefmt::skip]
+static NAMED: [(&str, &str); 12] = [
+    ("", RFC), ("/foo", r#"["bar","baz"]"#), ("/foo/0", r#""bar""#), ("/", "0"), ("/a~1b", "1"), ("/c%d", "2"),
+    ("/e^f", "3"), ("/g|h", "4"), (r"/i\j", "5"), ("/k\"l", "6"), ("/ ", "7"), ("/m~0n", "8"),
 ];
 
 /// The examples of RFC 6901, section 5.
@@ -171,8 +171,9 @@ const NESTED: &str = r#"{"a":[{"m~/n":[1]}]}"#;
 static CONTAINERS: [&str; 4] = ["", "/a", "/a/0", "/a/0/m~0~1n"];
 
 /// Pointers that pass these containers. The last four name nothing.
-static PASSING: [&str; 8] = rows![
-    ""; "/a"; "/a/0/m~0~1n"; "/a/0/m~0~1n/0"; "/a/0/m~0~1n/1"; "/a/0/m~1n"; "/a/0/m~0~1n/0/d"; "/a/~";
+#[rattlefmt::skip]
+static PASSING: [&str; 8] = [
+    "", "/a", "/a/0/m~0~1n", "/a/0/m~0~1n/0", "/a/0/m~0~1n/1", "/a/0/m~1n", "/a/0/m~0~1n/0/d", "/a/~",
 ];
 
 /// Reserves capacity for 50 more elements or entries where a pointer leads.

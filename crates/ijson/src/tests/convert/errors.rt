@@ -1,6 +1,5 @@
 //! Each error converts by `?` to an error with its message, and its debug output has its name and fields.
 
-use super::rows;
 use crate::array::Refused;
 use crate::convert::ConvertError;
 use crate::object::{RefusedKey, RefusedPair};
@@ -10,17 +9,19 @@ use crate::tests::support::{is_told, key};
 use crate::value::IValue;
 
 /// Errors of a conversion, the message and the debug output of each.
-static OF_CONVERSIONS: [(ConvertError, &str, &str); 4] = rows![
-    ConvertError::WrongKind => "a value of another kind" => "WrongKind";
-    ConvertError::OutOfRange => "not a whole number in the range of the type" => "OutOfRange";
-    ConvertError::Number => "a number that is neither an i64 nor a u64" => "Number";
-    ConvertError::Memory => "out of memory" => "Memory";
+#[rattlefmt::skip]
+static OF_CONVERSIONS: [(ConvertError, &str, &str); 4] = [
+    (ConvertError::WrongKind, "a value of another kind", "WrongKind"),
+    (ConvertError::OutOfRange, "not a whole number in the range of the type", "OutOfRange"),
+    (ConvertError::Number, "a number that is neither an i64 nor a u64", "Number"),
+    (ConvertError::Memory, "out of memory", "Memory"),
 ];
 
 /// Errors of a pointer, the message and the debug output of each.
-static OF_POINTERS: [(Unresolved, &str, &str); 2] = rows![
-    Unresolved::Nothing => "nothing is at the JSON Pointer" => "Nothing";
-    Unresolved::NoPointer(PointerError::Syntax) => "not a JSON Pointer" => "NoPointer(Syntax)";
+#[rattlefmt::skip]
+static OF_POINTERS: [(Unresolved, &str, &str); 2] = [
+    (Unresolved::Nothing, "nothing is at the JSON Pointer", "Nothing"),
+    (Unresolved::NoPointer(PointerError::Syntax), "not a JSON Pointer", "NoPointer(Syntax)"),
 ];
 
 #[test]

@@ -1,6 +1,6 @@
 //! Conversions to `serde_json` and back, as a value and by the call for each kind.
 
-use super::{Converted, has_strings, rows, used_cache};
+use super::{Converted, has_strings, used_cache};
 use crate::convert::{
     ConvertError, from_serde, from_serde_map, from_serde_number, to_serde, to_serde_map,
     to_serde_number,
@@ -17,25 +17,25 @@ const NUMBER: Converted<&str> = Err(ConvertError::Number);
 /// Texts, and the text of each value after a conversion.
 ///
 /// The first conversion is to `serde_json` and back, the second from the value that `serde_json` reads.
-static SERDE: [(&str, Converted<&str>, Converted<&str>); 19] = rows![
-    r#"{"b":1,"a":2.0}"# => Ok(r#"{"a":2,"b":1}"#) => NUMBER;
-    r#"{"b":1,"a":2}"# => Ok(r#"{"a":2,"b":1}"#) => Ok(r#"{"a":2,"b":1}"#);
-    "[18446744073709551616]" => NUMBER => NUMBER; "-9223372036854775809" => NUMBER => NUMBER;
-    "[1,0.5]" => NUMBER => NUMBER; "1.5" => NUMBER => NUMBER; "1e100" => NUMBER => NUMBER;
-    "2.0" => Ok("2") => NUMBER; "0" => Ok("0") => Ok("0"); "7" => Ok("7") => Ok("7");
-    "18446744073709551615" => Ok("18446744073709551615") => Ok("18446744073709551615");
-    "-9223372036854775808" => Ok("-9223372036854775808") => Ok("-9223372036854775808");
-    "9223372036854775808.0" => Ok("9223372036854775808") => NUMBER;
-    r#"{"a":1,"b":2,"a":3}"# => Ok(r#"{"a":3,"b":2}"#) => Ok(r#"{"a":3,"b":2}"#);
-    r#"{"c":0,"b":1,"c":2,"a":3}"# => Ok(r#"{"a":3,"b":1,"c":2}"#) => Ok(r#"{"a":3,"b":1,"c":2}"#);
-    r#"[[{"y":[null,true,"a text of many bytes"],"x":{}}],"",-7]"#
-        => Ok(r#"[[{"x":{},"y":[null,true,"a text of many bytes"]}],"",-7]"#)
-        => Ok(r#"[[{"x":{},"y":[null,true,"a text of many bytes"]}],"",-7]"#);
-    r#"{"o":{"n":{"m":[[false]]}},"a key of many bytes":[[[1]]]}"#
-        => Ok(r#"{"a key of many bytes":[[[1]]],"o":{"n":{"m":[[false]]}}}"#)
-        => Ok(r#"{"a key of many bytes":[[[1]]],"o":{"n":{"m":[[false]]}}}"#);
-    r#"{"a":[{"b":[1,-0.25]}]}"# => NUMBER => NUMBER;
-    WRITTEN => Ok(r#"{"longlong":["eight888",{}],"n":[1,{"m":2}]}"#) => NUMBER;
+#[rattlefmt::skip]
+static SERDE: [(&str, Converted<&str>, Converted<&str>); 19] = [
+    (r#"{"b":1,"a":2.0}"#, Ok(r#"{"a":2,"b":1}"#), NUMBER),
+    (r#"{"b":1,"a":2}"#, Ok(r#"{"a":2,"b":1}"#), Ok(r#"{"a":2,"b":1}"#)), ("[18446744073709551616]", NUMBER, NUMBER),
+    ("-9223372036854775809", NUMBER, NUMBER), ("[1,0.5]", NUMBER, NUMBER), ("1.5", NUMBER, NUMBER),
+    ("1e100", NUMBER, NUMBER), ("2.0", Ok("2"), NUMBER), ("0", Ok("0"), Ok("0")), ("7", Ok("7"), Ok("7")),
+    ("18446744073709551615", Ok("18446744073709551615"), Ok("18446744073709551615")),
+    ("-9223372036854775808", Ok("-9223372036854775808"), Ok("-9223372036854775808")),
+    ("9223372036854775808.0", Ok("9223372036854775808"), NUMBER),
+    (r#"{"a":1,"b":2,"a":3}"#, Ok(r#"{"a":3,"b":2}"#), Ok(r#"{"a":3,"b":2}"#)),
+    (r#"{"c":0,"b":1,"c":2,"a":3}"#, Ok(r#"{"a":3,"b":1,"c":2}"#), Ok(r#"{"a":3,"b":1,"c":2}"#)),
+    (r#"[[{"y":[null,true,"a text of many bytes"],"x":{}}],"",-7]"#,
+     Ok(r#"[[{"x":{},"y":[null,true,"a text of many bytes"]}],"",-7]"#),
+     Ok(r#"[[{"x":{},"y":[null,true,"a text of many bytes"]}],"",-7]"#)),
+    (r#"{"o":{"n":{"m":[[false]]}},"a key of many bytes":[[[1]]]}"#,
+     Ok(r#"{"a key of many bytes":[[[1]]],"o":{"n":{"m":[[false]]}}}"#),
+     Ok(r#"{"a key of many bytes":[[[1]]],"o":{"n":{"m":[[false]]}}}"#)),
+    (r#"{"a":[{"b":[1,-0.25]}]}"#, NUMBER, NUMBER),
+    (WRITTEN, Ok(r#"{"longlong":["eight888",{}],"n":[1,{"m":2}]}"#), NUMBER),
 ];
 
 /// The text of a value that is written as it was before the conversions.

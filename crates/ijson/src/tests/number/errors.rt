@@ -8,29 +8,12 @@ use std::error::Error;
 use std::process::Abort;
 
 /// Texts of no number, or of one out of range, and the index of the first fault. A number out of range has none.
+#[rattlefmt::skip]
 static REJECTED: [(&str, Option<usize>); 23] = [
-    ("", Some(0)),
-    ("+1", Some(0)),
-    (" 1", Some(0)),
-    (".5", Some(0)),
-    ("-", Some(1)),
-    ("01", Some(1)),
-    ("0001", Some(1)),
-    ("1 ", Some(1)),
-    ("1-2", Some(1)),
-    ("-01", Some(2)),
-    ("1.", Some(2)),
-    ("1.x", Some(2)),
-    ("1e", Some(2)),
-    ("1e+", Some(3)),
-    ("1e5e", Some(3)),
-    ("1.5.5", Some(3)),
-    ("1.5e+", Some(5)),
-    ("1.5E-", Some(5)),
-    ("1e1073741825-", Some(12)),
-    ("1e1073741825", None),
-    ("10e1073741824", None),
-    ("1e-1073741825", None),
+    ("", Some(0)), ("+1", Some(0)), (" 1", Some(0)), (".5", Some(0)), ("-", Some(1)), ("01", Some(1)),
+    ("0001", Some(1)), ("1 ", Some(1)), ("1-2", Some(1)), ("-01", Some(2)), ("1.", Some(2)), ("1.x", Some(2)),
+    ("1e", Some(2)), ("1e+", Some(3)), ("1e5e", Some(3)), ("1.5.5", Some(3)), ("1.5e+", Some(5)), ("1.5E-", Some(5)),
+    ("1e1073741825-", Some(12)), ("1e1073741825", None), ("10e1073741824", None), ("1e-1073741825", None),
     ("1e99999999999999999999999999999999999999999999", None),
 ];
 
@@ -64,24 +47,12 @@ fn rejected_texts(rt: HostRuntime) {
 }
 
 /// Texts, and the number of leading bytes read of each.
+#[rattlefmt::skip]
 static FRONTS: [(&str, Option<usize>); 17] = [
-    ("12", Some(2)),
-    ("1234567890123456789,", Some(19)),
-    ("-0.0012345678901234567,", Some(22)),
-    ("-123.4567890123450, 2", Some(18)),
-    ("0.1234567890123456789e-5", Some(24)),
-    ("-1.50]", Some(5)),
-    ("1.5.5", Some(3)),
-    ("1E-0007,2", Some(7)),
-    ("1e5.5", Some(3)),
-    ("1.x", None),
-    ("1.1234567890123456789", None),
-    ("12345678901234567890.5", None),
-    ("12e5x", None),
-    ("1e12345", None),
-    ("1e+", None),
-    ("1.", None),
-    ("01", None),
+    ("12", Some(2)), ("1234567890123456789,", Some(19)), ("-0.0012345678901234567,", Some(22)),
+    ("-123.4567890123450, 2", Some(18)), ("0.1234567890123456789e-5", Some(24)), ("-1.50]", Some(5)),
+    ("1.5.5", Some(3)), ("1E-0007,2", Some(7)), ("1e5.5", Some(3)), ("1.x", None), ("1.1234567890123456789", None),
+    ("12345678901234567890.5", None), ("12e5x", None), ("1e12345", None), ("1e+", None), ("1.", None), ("01", None),
 ];
 
 /// Asserts the length of the leading number of a text, and that its bytes alone spell the number.

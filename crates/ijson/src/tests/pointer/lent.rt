@@ -20,7 +20,6 @@ use crate::json::{JsonError, from_json, to_json};
 use crate::object::{IObject, ObjectIndex, RefusedPair};
 use crate::pointer::resolve_opened_mut;
 use crate::string::IString;
-use crate::tests::convert::rows;
 use crate::tests::support::{empty_cache, is_written, key, parsed};
 use crate::value::{BoolMut, Destructured, DestructuredMut, IValue, ValueIndex};
 use std::alloc::Global;
@@ -189,10 +188,10 @@ fn turn_truth(value: &mut IValue)
 const TEXT: &str = r#"{"a":1,"b":[2]}"#;
 
 /// Keys, whether each exists in `TEXT`, and the text after true is put as its value.
-static WRITTEN: [(&str, bool, &str); 3] = rows![
-    "a" => true => r#"{"a":true,"b":[2]}"#;
-    "b" => true => r#"{"a":1,"b":true}"#;
-    "c" => false => r#"{"a":1,"b":[2],"c":true}"#;
+#[rattlefmt::skip]
+static WRITTEN: [(&str, bool, &str); 3] = [
+    ("a", true, r#"{"a":true,"b":[2]}"#), ("b", true, r#"{"a":1,"b":true}"#),
+    ("c", false, r#"{"a":1,"b":[2],"c":true}"#),
 ];
 
 /// Asserts whether a key exists, by the key returned with a mutable value.
@@ -256,9 +255,10 @@ fn values_beside_keys(rt: HostRuntime) {
 }
 
 /// JSON texts, and the text of each after its Boolean is negated.
-static TURNED: [(&str, &str); 7] = rows![
-    "true" => "false"; "false" => "true"; "null" => "null"; "1" => "1"; r#""true""# => r#""true""#; "[true]" => "[true]";
-    r#"{"true":true}"# => r#"{"true":true}"#;
+#[rattlefmt::skip]
+static TURNED: [(&str, &str); 7] = [
+    ("true", "false"), ("false", "true"), ("null", "null"), ("1", "1"), (r#""true""#, r#""true""#),
+    ("[true]", "[true]"), (r#"{"true":true}"#, r#"{"true":true}"#),
 ];
 
 /// A Boolean is negated, and another value is unchanged.

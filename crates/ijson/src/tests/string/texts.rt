@@ -31,41 +31,18 @@ const WORDS_OF_HUNDRED: [u64; 102] = [
     52, 53, 54, 55, 56, 57,
 ];
 
+#[rattlefmt::skip]
 static PROPERTIES: [(&str, Property); 23] = [
-    ("z", Bytes(&[0x7a])),
-    ("é", Bytes(&[0xc3, 0xa9])),
-    ("", Less("interned_string_a")),
-    ("interned_string_a", Less("interned_string_b")),
-    ("interned_string_b", Less("z")),
-    ("z", Less("é")),
-    ("eight888", Less("seven77")),
-    ("", Padded(Some((0, "\0\0\0\0\0\0\0")))),
-    ("é", Padded(Some((2, "é\0\0\0\0\0")))),
-    ("seven77", Padded(Some((7, "seven77")))),
-    ("eight888", Padded(None)),
-    ("seven77", Wide("   seven77")),
-    ("eight888", Wide("  eight888")),
-    ("", Words(&[3, 0])),
-    ("hi", Words(&[3, 2, 104, 105])),
-    ("é", Words(&[3, 2, 195, 169])),
-    (HUNDRED, Words(&WORDS_OF_HUNDRED)),
-    (
-        "eight888",
-        Words(&[3, 8, 101, 105, 103, 104, 116, 56, 56, 56]),
-    ),
-    ("", Debug(r#""""#)),
-    ("seven77", Debug(r#""seven77""#)),
-    ("a \"quote\" and \\", Debug(r#""a \"quote\" and \\""#)),
-    (
-        "a long string of more than 71 bytes, which has a \"quote\" at its end, \"here\"",
-        Debug(
-            r#""a long string of more than 71 bytes, which has a \"quote\" at its end, \"here\"""#,
-        ),
-    ),
-    (
-        "two\nlines, \u{e9} and \u{1}",
-        Debug("\"two\\nlines, \u{e9} and \\u{1}\""),
-    ),
+    ("z", Bytes(&[0x7a])), ("é", Bytes(&[0xc3, 0xa9])), ("", Less("interned_string_a")),
+    ("interned_string_a", Less("interned_string_b")), ("interned_string_b", Less("z")), ("z", Less("é")),
+    ("eight888", Less("seven77")), ("", Padded(Some((0, "\0\0\0\0\0\0\0")))), ("é", Padded(Some((2, "é\0\0\0\0\0")))),
+    ("seven77", Padded(Some((7, "seven77")))), ("eight888", Padded(None)), ("seven77", Wide("   seven77")),
+    ("eight888", Wide("  eight888")), ("", Words(&[3, 0])), ("hi", Words(&[3, 2, 104, 105])),
+    ("é", Words(&[3, 2, 195, 169])), (HUNDRED, Words(&WORDS_OF_HUNDRED)),
+    ("eight888", Words(&[3, 8, 101, 105, 103, 104, 116, 56, 56, 56])), ("", Debug(r#""""#)),
+    ("seven77", Debug(r#""seven77""#)), ("a \"quote\" and \\", Debug(r#""a \"quote\" and \\""#)),
+    ("a long string of more than 71 bytes, which has a \"quote\" at its end, \"here\"", Debug(r#""a long string of more than 71 bytes, which has a \"quote\" at its end, \"here\"""#)),
+    ("two\nlines, \u{e9} and \u{1}", Debug("\"two\\nlines, \u{e9} and \\u{1}\"")),
 ];
 
 /// Asserts that one string is less than the other.

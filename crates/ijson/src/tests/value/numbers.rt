@@ -8,16 +8,11 @@ use std::alloc::Global;
 use std::process::Abort;
 
 /// Values, and the integer that each denotes. A type of integers without it converts to none.
+#[rattlefmt::skip]
 static INTEGERS: [(Part, Option<i128>); 12] = [
-    (Number("2.0"), Some(2)),
-    (Number("-1"), Some(-1)),
-    (Number("2.5"), None),
-    (Text("2"), None),
-    (Number("7"), Some(7)),
-    (Number("65535"), Some(65535)),
-    (Number("-2147483648"), Some(-2147483648)),
-    (Number("4294967295"), Some(4294967295)),
-    (Number("-9223372036854775808"), Some(-9223372036854775808)),
+    (Number("2.0"), Some(2)), (Number("-1"), Some(-1)), (Number("2.5"), None), (Text("2"), None),
+    (Number("7"), Some(7)), (Number("65535"), Some(65535)), (Number("-2147483648"), Some(-2147483648)),
+    (Number("4294967295"), Some(4294967295)), (Number("-9223372036854775808"), Some(-9223372036854775808)),
     (Number("9223372036854775807"), Some(9223372036854775807)),
     (Number("12345678901234567890.0"), Some(12345678901234567890)),
     (Number("18446744073709551615"), Some(18446744073709551615)),
