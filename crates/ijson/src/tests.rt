@@ -43,6 +43,7 @@ mod array;
 mod canonical;
 mod convert;
 mod json;
+mod letters;
 mod merge_patch;
 mod number;
 mod object;

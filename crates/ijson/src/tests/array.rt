@@ -1,19 +1,17 @@
 //! Arrays: the result and effect of each call, whichever allocation fails, and callers that know the list by contracts.
 //!
-//! A letter denotes an element: `n` null, `t` true, `f` false, a digit its number, `p` 2.0, and `l` an array of one null, which owns memory.
+//! Letters denote the elements.
 ghost use Rattle.std.specs.Prelude.{◌≡◌, [], ◌∷◌, ◌++◌, true, OnOk};
 ghost use Rattle.ijson_value.specs.Values.{null_value, boolean_value};
 
 mod large;
 
-use super::support::{begin_count, end_count, is_shown, set};
+use super::letters::{State, letter_in, letter_of, value_of};
+use super::support::{are_same, begin_count, end_count, is_shown, set};
 use crate::array::{IArray, IntoIter, Refused};
-use crate::number::{INumber, ParseNumberError};
 use crate::value::IValue;
 use Call::*;
 use std::alloc::{AllocError, Global};
-use std::cmp::Ordering;
-use std::hash::{DefaultHasher, Hash, Hasher};
 use std::mem;
 use std::process::Abort;
 
@@ -42,111 +40,41 @@ enum Call {
     CloneOf,
 }
 
-/// The content of an array or object, by its letters, and its capacity.
-pub type State = (&'static str, usize);
-
 /// A state, a call, its elements, the element that it returns, and the state then.
 ///
 /// A call that keeps the capacity does not allocate.
 type Row = (State, Call, &'static str, &'static str, State);
 
+#[rattlefmt::skip]
 static ROWS: [Row; 57] = [
-    (("", 7), Clear, "", "", ("", 7)),
-    (("", 0), Insert(0), "n", "", ("n", 4)),
-    (("n", 4), Push, "t", "", ("nt", 4)),
-    (("nt", 4), Insert(1), "f", "", ("nft", 4)),
-    (("", 0), Push, "n", "", ("n", 4)),
-    (("n", 4), Extend, "tfn", "", ("ntfn", 4)),
-    (("ntfn", 4), Push, "t", "", ("ntfnt", 8)),
-    (("ntfnt", 8), Extend, "fnt", "", ("ntfntfnt", 8)),
-    (("ntfntfnt", 8), Push, "f", "", ("ntfntfntf", 16)),
-    (("", 0), Remove(0), "", "", ("", 0)),
-    (("", 0), SwapRemove(0), "", "", ("", 0)),
-    (("", 0), Pop, "", "", ("", 0)),
-    (("", 0), CloneOf, "", "", ("", 0)),
-    (("", 0), FromSlice, "", "", ("", 0)),
-    (("", 0), Extend, "012345678", "", ("012345678", 16)),
-    (("012345678", 16), CloneOf, "", "", ("012345678", 9)),
-    (("ntf", 4), SwapRemove(3), "", "", ("ntf", 4)),
-    (("ntf", 4), Remove(3), "", "", ("ntf", 4)),
-    (("ntf", 4), Remove(1), "", "t", ("nf", 4)),
-    (("nf", 4), Pop, "", "f", ("n", 4)),
-    (("ntf", 4), SwapRemove(0), "", "n", ("ft", 4)),
-    (("ntf", 4), Truncate(5), "", "", ("ntf", 4)),
-    (("ntf", 4), Truncate(1), "", "", ("n", 4)),
-    (("n", 4), Clear, "", "", ("", 4)),
-    (("", 4), ShrinkToFit, "", "", ("", 0)),
-    (("", 0), Reserve(3), "", "", ("", 4)),
-    (("", 4), Push, "0", "", ("0", 4)),
-    (("0", 4), Push, "1", "", ("01", 4)),
-    (("01", 4), Push, "2", "", ("012", 4)),
-    (("12", 2), Insert(0), "0", "", ("012", 4)),
-    (("012", 4), Reserve(20), "", "", ("012", 23)),
-    (("012", 23), ShrinkToFit, "", "", ("012", 3)),
-    (("012", 3), ShrinkToFit, "", "", ("012", 3)),
-    (("", 0), Insert(0), "0", "", ("0", 4)),
-    (("", 3), Clear, "", "", ("", 3)),
-    (("", 3), Extend, "012", "", ("012", 3)),
-    (("012", 3), SwapRemove(0), "", "0", ("21", 3)),
-    (("21", 3), Remove(0), "", "2", ("1", 3)),
-    (("1", 3), Reserve(2), "", "", ("1", 3)),
-    (("1", 3), Insert(0), "n", "", ("n1", 3)),
-    (("n1", 3), Pop, "", "1", ("n", 3)),
-    (("n", 3), Remove(1), "", "", ("n", 3)),
-    (("n", 3), Truncate(1), "", "", ("n", 3)),
-    (("n", 3), FromIter, "nt", "", ("nt", 4)),
-    (("nt", 4), Extend, "ff", "", ("ntff", 4)),
-    (("ntff", 4), Extend, "", "", ("ntff", 4)),
-    (("ntff", 4), Reverse, "", "", ("fftn", 4)),
-    (("fftn", 4), SetNull, "", "", ("nnnn", 4)),
-    (("nnnn", 4), FromIter, "012345678", "", ("012345678", 16)),
-    (("012345678", 16), FromVec, "012", "", ("012", 4)),
-    (("012", 4), Write(1), "l", "1", ("0l2", 4)),
-    (("0l2", 4), FromSlice, "", "", ("0l2", 3)),
-    (("0l2", 3), FromVec, "ntff", "", ("ntff", 4)),
-    (("ntf", 4), SetNull, "", "", ("nnn", 4)),
-    (("tf", 4), Reverse, "", "", ("ft", 4)),
-    (("llll", 4), Truncate(3), "", "", ("lll", 4)),
-    (("lll", 4), CloneOf, "", "", ("lll", 3)),
+    (("", 7), Clear, "", "", ("", 7)), (("", 0), Insert(0), "n", "", ("n", 4)), (("n", 4), Push, "t", "", ("nt", 4)),
+    (("nt", 4), Insert(1), "f", "", ("nft", 4)), (("", 0), Push, "n", "", ("n", 4)),
+    (("n", 4), Extend, "tfn", "", ("ntfn", 4)), (("ntfn", 4), Push, "t", "", ("ntfnt", 8)),
+    (("ntfnt", 8), Extend, "fnt", "", ("ntfntfnt", 8)), (("ntfntfnt", 8), Push, "f", "", ("ntfntfntf", 16)),
+    (("", 0), Remove(0), "", "", ("", 0)), (("", 0), SwapRemove(0), "", "", ("", 0)), (("", 0), Pop, "", "", ("", 0)),
+    (("", 0), CloneOf, "", "", ("", 0)), (("", 0), FromSlice, "", "", ("", 0)),
+    (("", 0), Extend, "012345678", "", ("012345678", 16)), (("012345678", 16), CloneOf, "", "", ("012345678", 9)),
+    (("ntf", 4), SwapRemove(3), "", "", ("ntf", 4)), (("ntf", 4), Remove(3), "", "", ("ntf", 4)),
+    (("ntf", 4), Remove(1), "", "t", ("nf", 4)), (("nf", 4), Pop, "", "f", ("n", 4)),
+    (("ntf", 4), SwapRemove(0), "", "n", ("ft", 4)), (("ntf", 4), Truncate(5), "", "", ("ntf", 4)),
+    (("ntf", 4), Truncate(1), "", "", ("n", 4)), (("n", 4), Clear, "", "", ("", 4)),
+    (("", 4), ShrinkToFit, "", "", ("", 0)), (("", 0), Reserve(3), "", "", ("", 4)),
+    (("", 4), Push, "0", "", ("0", 4)), (("0", 4), Push, "1", "", ("01", 4)), (("01", 4), Push, "2", "", ("012", 4)),
+    (("12", 2), Insert(0), "0", "", ("012", 4)), (("012", 4), Reserve(20), "", "", ("012", 23)),
+    (("012", 23), ShrinkToFit, "", "", ("012", 3)), (("012", 3), ShrinkToFit, "", "", ("012", 3)),
+    (("", 0), Insert(0), "0", "", ("0", 4)), (("", 3), Clear, "", "", ("", 3)),
+    (("", 3), Extend, "012", "", ("012", 3)), (("012", 3), SwapRemove(0), "", "0", ("21", 3)),
+    (("21", 3), Remove(0), "", "2", ("1", 3)), (("1", 3), Reserve(2), "", "", ("1", 3)),
+    (("1", 3), Insert(0), "n", "", ("n1", 3)), (("n1", 3), Pop, "", "1", ("n", 3)),
+    (("n", 3), Remove(1), "", "", ("n", 3)), (("n", 3), Truncate(1), "", "", ("n", 3)),
+    (("n", 3), FromIter, "nt", "", ("nt", 4)), (("nt", 4), Extend, "ff", "", ("ntff", 4)),
+    (("ntff", 4), Extend, "", "", ("ntff", 4)), (("ntff", 4), Reverse, "", "", ("fftn", 4)),
+    (("fftn", 4), SetNull, "", "", ("nnnn", 4)), (("nnnn", 4), FromIter, "012345678", "", ("012345678", 16)),
+    (("012345678", 16), FromVec, "012", "", ("012", 4)), (("012", 4), Write(1), "l", "1", ("0l2", 4)),
+    (("0l2", 4), FromSlice, "", "", ("0l2", 3)), (("0l2", 3), FromVec, "ntff", "", ("ntff", 4)),
+    (("ntf", 4), SetNull, "", "", ("nnn", 4)), (("tf", 4), Reverse, "", "", ("ft", 4)),
+    (("llll", 4), Truncate(3), "", "", ("lll", 4)), (("lll", 4), CloneOf, "", "", ("lll", 3)),
 ];
-
-/// Returns the value of a letter.
-pub fn value_of(rt: &impl Abort, alloc: Global, letter: u8) -> IValue {
-    match letter {
-        b't' => IValue::TRUE,
-        b'f' => IValue::FALSE,
-        b'0'..=b'9' => IValue::from(letter - b'0'),
-        b'p' => {
-            IValue::from(granted!(rt; ParseNumberError::Memory; INumber::from_str(alloc, "2.0")))
-        }
-        b'l' => {
-            let mut list = granted!(rt; IArray::with_capacity(alloc, 1));
-            list.push(IValue::NULL).expect(rt, "room");
-            IValue::from(list)
-        }
-        _ => IValue::NULL,
-    }
-}
-
-/// Returns the letter of a value, or `?` if it has none.
-pub fn letter_of(value: &IValue) -> u8 {
-    match (value.to_usize(), value.to_bool(), value.as_array()) {
-        (Some(2), ..) if value.as_number().is_some_and(INumber::has_decimal_point) => b'p',
-        (Some(number), ..) => b"0123456789".get(number).copied().unwrap_or(b'?'),
-        (_, Some(true), _) => b't',
-        (_, Some(false), _) => b'f',
-        (.., Some(list)) if list.len() == 1 && list[0].is_null() => b'l',
-        _ if value.is_null() => b'n',
-        _ => b'?',
-    }
-}
-
-/// Returns the letter of a removed value.
-pub fn letter_in(value: Option<IValue>) -> Option<u8> {
-    let letter = value.as_ref().map(letter_of);
-    drop(value);
-    letter
-}
 
 /// Returns the array of these letters, of this capacity.
 fn spelled(rt: &impl Abort, alloc: Global, (letters, capacity): (&str, usize)) -> IArray {
@@ -298,21 +226,6 @@ fn makes(rt: &impl Abort, alloc: Global, array: &mut IArray, row: Row) {
     if is_quiet {
         end_count(alloc, 0);
     }
-}
-
-pub fn hash_of<T: Hash>(value: &T) -> u64 {
-    let mut hasher = DefaultHasher::new();
-    value.hash(&mut hasher);
-    hasher.finish()
-}
-
-/// Asserts that two values are equal, also in their order and their hashes, which does not allocate.
-pub fn are_same<T: Hash + PartialOrd>(rt: &impl Abort, alloc: Global, one: &T, other: &T) {
-    counted!(alloc; {
-        assert!(*rt; one == other && other == one);
-        assert!(*rt; one.partial_cmp(other) == Some(Ordering::Equal));
-        assert!(*rt; hash_of(one) == hash_of(other));
-    });
 }
 
 /// Moves elements out of an array, which does not allocate, and returns the iterator over the others.

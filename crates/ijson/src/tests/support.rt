@@ -5,9 +5,10 @@ use crate::string::{IString, StringCache};
 use crate::value::IValue;
 use std::alloc::{AllocError, Global};
 use std::cell::Cell;
+use std::cmp::Ordering;
 use std::error::Error;
 use std::fmt::Debug;
-use std::hash::{BuildHasher, BuildHasherDefault, FoldHasher, Hash, Hasher};
+use std::hash::{BuildHasher, BuildHasherDefault, DefaultHasher, FoldHasher, Hash, Hasher};
 use std::process::Abort;
 
 pub type Cache = StringCache<BuildHasherDefault<FoldHasher>>;
@@ -69,6 +70,22 @@ pub fn is_told<E: Error>(rt: &impl Abort, alloc: Global, fault: E, message: &str
     let error = passed_on(fault).err().expect(rt, message);
     let found = granted!(rt; format!(in alloc; "{error}"));
     assert!(*rt; found.as_str() == message, "{found} is not {message}");
+}
+
+/// Returns the hash of a value.
+pub fn hash_of<T: Hash>(value: &T) -> u64 {
+    let mut hasher = DefaultHasher::new();
+    value.hash(&mut hasher);
+    hasher.finish()
+}
+
+/// Asserts that two values are equal, also in their order and their hashes, which does not allocate.
+pub fn are_same<T: Hash + PartialOrd>(rt: &impl Abort, alloc: Global, one: &T, other: &T) {
+    counted!(alloc; {
+        assert!(*rt; one == other && other == one);
+        assert!(*rt; one.partial_cmp(other) == Some(Ordering::Equal));
+        assert!(*rt; hash_of(one) == hash_of(other));
+    });
 }
 
 /// Compares the words of `write_u64` with the wanted ones.

@@ -5,47 +5,27 @@ use super::{numbered, repeated};
 use crate::array::IArray;
 use crate::object::IObject;
 use crate::table::ReserveError;
-use crate::tests::support::{is_shown, is_written, parsed};
+use crate::tests::support::{hash_of, is_shown, is_written, parsed};
 use crate::value::IValue;
 use std::alloc::{AllocError, Global};
 use std::cmp::Ordering;
 use std::collections::HashMap;
-use std::hash::{BuildHasherDefault, DefaultHasher, FoldHasher, Hash, Hasher};
+use std::hash::{BuildHasherDefault, FoldHasher};
 use std::process::Abort;
 
 /// Two texts, and the sign between their values, which is `?` if they are not ordered.
+#[rattlefmt::skip]
 static ORDERED: [(&str, char, &str); 31] = [
-    ("null", '<', "false"),
-    ("false", '<', "true"),
-    ("false", '<', "0"),
-    ("true", '<', "0"),
-    ("0", '<', "\"\""),
-    ("1", '<', "\"1\""),
-    ("\"\"", '<', "[]"),
-    ("[]", '<', "{}"),
-    ("null", '=', "null"),
-    ("2", '=', "2.0"),
-    ("-0", '=', "-0.0"),
-    ("1e2", '=', "100"),
-    ("-1e3", '<', "0.5"),
-    ("0.1", '<', "0.10000000000000000001"),
-    ("\"interned_string_a\"", '<', "\"interned_string_b\""),
-    ("\"a\"", '<', "\"ab\""),
-    ("[]", '<', "[{}]"),
-    ("[1,2]", '>', "[1.0]"),
-    ("[1,2]", '<', "[1,3,null]"),
-    ("[1,2]", '<', "[2,1]"),
-    (r#"[{"k":1}]"#, '?', r#"[{"k":2},0]"#),
-    (r#"[{"k":1}]"#, '<', r#"[{"k":1.0},0]"#),
-    (r#"[1,{"k":1}]"#, '<', r#"[2,{"k":2}]"#),
-    (r#"{"k":1}"#, '?', r#"{"k":2}"#),
-    (r#"{"k":1}"#, '?', r#"{"k":1,"l":1}"#),
-    (r#"{"x":1}"#, '?', r#"{"x":1,"y":null}"#),
-    ("{}", '?', r#"{"k":1}"#),
-    (r#"{"k":true}"#, '=', r#"{"k":true}"#),
-    (r#"[{"k":true}]"#, '=', r#"[{"k":true}]"#),
-    (r#"{"x":1,"y":2}"#, '=', r#"{"y":2.0,"x":1e0}"#),
-    (r#"{"k":2,"l":[1,{}]}"#, '=', r#"{"l":[1.0,{}],"k":2.0}"#),
+    ("null", '<', "false"), ("false", '<', "true"), ("false", '<', "0"), ("true", '<', "0"), ("0", '<', "\"\""),
+    ("1", '<', "\"1\""), ("\"\"", '<', "[]"), ("[]", '<', "{}"), ("null", '=', "null"), ("2", '=', "2.0"),
+    ("-0", '=', "-0.0"), ("1e2", '=', "100"), ("-1e3", '<', "0.5"), ("0.1", '<', "0.10000000000000000001"),
+    ("\"interned_string_a\"", '<', "\"interned_string_b\""), ("\"a\"", '<', "\"ab\""), ("[]", '<', "[{}]"),
+    ("[1,2]", '>', "[1.0]"), ("[1,2]", '<', "[1,3,null]"), ("[1,2]", '<', "[2,1]"),
+    (r#"[{"k":1}]"#, '?', r#"[{"k":2},0]"#), (r#"[{"k":1}]"#, '<', r#"[{"k":1.0},0]"#),
+    (r#"[1,{"k":1}]"#, '<', r#"[2,{"k":2}]"#), (r#"{"k":1}"#, '?', r#"{"k":2}"#),
+    (r#"{"k":1}"#, '?', r#"{"k":1,"l":1}"#), (r#"{"x":1}"#, '?', r#"{"x":1,"y":null}"#), ("{}", '?', r#"{"k":1}"#),
+    (r#"{"k":true}"#, '=', r#"{"k":true}"#), (r#"[{"k":true}]"#, '=', r#"[{"k":true}]"#),
+    (r#"{"x":1,"y":2}"#, '=', r#"{"y":2.0,"x":1e0}"#), (r#"{"k":2,"l":[1,{}]}"#, '=', r#"{"l":[1.0,{}],"k":2.0}"#),
 ];
 
 fn order_of(sign: char) -> Option<Ordering> {
@@ -55,12 +35,6 @@ fn order_of(sign: char) -> Option<Ordering> {
         '>' => Some(Ordering::Greater),
         _ => None,
     }
-}
-
-fn hash_of<T: Hash>(value: &T) -> u64 {
-    let mut hasher = DefaultHasher::new();
-    value.hash(&mut hasher);
-    hasher.finish()
 }
 
 /// Asserts that the order of two values is antisymmetric, and agrees with equality and hashes.

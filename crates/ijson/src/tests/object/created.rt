@@ -4,7 +4,7 @@ use super::{Pair, holds, is_back, is_pair, pair_at, pair_of, spelled};
 use crate::object::{IObject, RefusedPairs};
 use crate::string::IString;
 use crate::table::ReserveError;
-use crate::tests::array::are_same;
+use crate::tests::support::are_same;
 use crate::value::IValue;
 use Way::*;
 use indexmap::IndexMap;
@@ -25,19 +25,12 @@ pub enum Way {
 }
 
 /// The source of an object, its entries, those of the object, and the capacity. No order is known of a hash map.
+#[rattlefmt::skip]
 static CREATED: [(Way, &str, &str, usize); 12] = [
-    (Pairs, "a1b2a3", "a3b2", 3),
-    (Pairs, "", "", 0),
-    (Pairs, "a1b2c3d4e5a1", "a1b2c3d4e5", 6),
-    (PairsOrBack, "a1b2a3", "a3b2", 3),
-    (PairsOrBack, "", "", 0),
-    (PairsOrBack, "a1b2c3d4e5a1", "a1b2c3d4e5", 6),
-    (Iterator, "J1F2K3", "J1F2K3", 4),
-    (Iterator, "001122", "001122", 4),
-    (Iterator, "a1b2c3d4e5", "a1b2c3d4e5", 8),
-    (Hashes, "b1a2E3", "a2b1E3", 3),
-    (Sorts, "b1a2E3", "a2b1E3", 3),
-    (Keeps, "b1a2E3", "b1a2E3", 3),
+    (Pairs, "a1b2a3", "a3b2", 3), (Pairs, "", "", 0), (Pairs, "a1b2c3d4e5a1", "a1b2c3d4e5", 6),
+    (PairsOrBack, "a1b2a3", "a3b2", 3), (PairsOrBack, "", "", 0), (PairsOrBack, "a1b2c3d4e5a1", "a1b2c3d4e5", 6),
+    (Iterator, "J1F2K3", "J1F2K3", 4), (Iterator, "001122", "001122", 4), (Iterator, "a1b2c3d4e5", "a1b2c3d4e5", 8),
+    (Hashes, "b1a2E3", "a2b1E3", 3), (Sorts, "b1a2E3", "a2b1E3", 3), (Keeps, "b1a2E3", "b1a2E3", 3),
 ];
 
 /// Returns a list of these entries.

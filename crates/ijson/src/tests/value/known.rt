@@ -5,11 +5,10 @@ use super::built::built;
 use super::moves::{capacity_of, is_emptied, is_taken};
 use crate::array::IArray;
 use crate::object::IObject;
-use crate::tests::support::{feeds, is_shown};
+use crate::tests::support::{feeds, hash_of, is_shown};
 use crate::value::{DestructuredMut, DestructuredRef, IValue, ValueType};
 use std::alloc::{AllocError, Global};
 use std::cmp::Ordering;
-use std::hash::{DefaultHasher, Hash, Hasher};
 use std::process::Abort;
 
 /// A value that is built, and what is known of it.
@@ -284,12 +283,6 @@ fn arrays(rt: HostRuntime) {
 #[test]
 fn objects(rt: HostRuntime) {
     are_known(&rt, rt.alloc(), &KNOWN[29..]);
-}
-
-fn hash_of<T: Hash>(value: &T) -> u64 {
-    let mut hasher = DefaultHasher::new();
-    value.hash(&mut hasher);
-    hasher.finish()
 }
 
 /// Asserts the order of two values and of their contents, and that equal values have equal hashes.
