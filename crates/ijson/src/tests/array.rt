@@ -7,7 +7,7 @@ ghost use Rattle.ijson_value.specs.Values.{null_value, boolean_value};
 mod large;
 
 use super::letters::{State, letter_in, letter_of, value_of};
-use super::support::{are_same, begin_count, end_count, is_shown, set};
+use super::support::{are_same, begin_count, end_count, is_set, is_shown, set};
 use crate::array::{IArray, IntoIter, Refused};
 use crate::value::IValue;
 use Call::*;
@@ -123,29 +123,31 @@ type Answer = Result<Option<IValue>, Refused>;
 
 /// Makes a call once. Some calls drop the element given.
 fn called(rt: &impl Abort, alloc: Global, array: &mut IArray, call: Call, item: IValue) -> Answer {
-    match call {
-        Push => array.push(item)?,
+    let is_done = match call {
+        Push => return array.push(item).and(Ok(None)),
         Insert(index) => {
             assert!(*rt; index <= array.len());
-            array.insert(index, item)?;
+            return array.insert(index, item).and(Ok(None));
         }
         Write(index) => {
             assert!(*rt; index < array.len());
             return Ok(Some(mem::replace(&mut array[index], item)));
         }
-        Reserve(more) => array.reserve(more).map_err(|_| Refused(item))?,
-        ShrinkToFit => array.shrink_to_fit().map_err(|_| Refused(item))?,
-        CloneOf => set(array, array.clone().map_err(|_| Refused(item))?),
-        FromSlice => {
-            let copy = IArray::from_slice(alloc, array.as_slice());
-            set(array, copy.map_err(|_| Refused(item))?);
-        }
+        Reserve(more) => array.reserve(more).is_ok(),
+        ShrinkToFit => array.shrink_to_fit().is_ok(),
+        CloneOf => is_set(array, array.clone()),
+        FromSlice => is_set(array, IArray::from_slice(alloc, array.as_slice())),
         _ => {
             drop(item);
             return Ok(changed(array, call));
         }
+    };
+    if is_done {
+        drop(item);
+        Ok(None)
+    } else {
+        Err(Refused(item))
     }
-    Ok(None)
 }
 
 /// Makes a call, again if an allocation fails, which leaves the array as it was.

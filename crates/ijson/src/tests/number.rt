@@ -8,7 +8,7 @@ mod large;
 mod lengths;
 mod order;
 
-use super::support::{feeds, is_shown};
+use super::support::{feeds, in_type, is_shown};
 use crate::number::{Form, INumber, ParseNumberError};
 use order::compares;
 use std::alloc::{AllocError, Global};
@@ -108,12 +108,12 @@ fn is_list(number: &INumber, text: &str, want: &str, power: i32) -> bool {
 
 /// Asserts the value of a number in each integer type, of which an `i128` has all values.
 fn is_integer(rt: &impl Abort, number: &INumber, want: Option<i128>) {
-    assert!(*rt; number.to_i64() == want.and_then(|value| i64::try_from(value).ok()));
-    assert!(*rt; number.to_i32() == want.and_then(|value| i32::try_from(value).ok()));
-    assert!(*rt; number.to_isize() == want.and_then(|value| isize::try_from(value).ok()));
-    assert!(*rt; number.to_u64() == want.and_then(|value| u64::try_from(value).ok()));
-    assert!(*rt; number.to_u32() == want.and_then(|value| u32::try_from(value).ok()));
-    assert!(*rt; number.to_usize() == want.and_then(|value| usize::try_from(value).ok()));
+    assert!(*rt; number.to_i64() == in_type(want));
+    assert!(*rt; number.to_i32() == in_type(want));
+    assert!(*rt; number.to_isize() == in_type(want));
+    assert!(*rt; number.to_u64() == in_type(want));
+    assert!(*rt; number.to_u32() == in_type(want));
+    assert!(*rt; number.to_usize() == in_type(want));
 }
 
 /// Returns `true` if a text that spells a number has a fraction point or an exponent.

@@ -9,7 +9,7 @@ mod shown;
 mod sizes;
 
 use super::letters::{State, letter_in, letter_of, value_of};
-use super::support::{are_same, begin_count, end_count, key, set};
+use super::support::{are_same, begin_count, end_count, is_set, key, set};
 use crate::object::{Entry, IObject, RefusedKey, RefusedPair, RefusedReplacement};
 use crate::string::IString;
 use crate::table::ReserveError;
@@ -431,9 +431,15 @@ fn by_key(rt: &impl Abort, object: &mut IObject, row: Row, (key, value): Pair) -
     Ok(reply)
 }
 
+/// Returns `false` if an allocation failed. There is no other reason.
+fn is_granted(rt: &impl Abort, answer: Result<(), ReserveError>) -> bool {
+    assert!(*rt; answer == Ok(()) || answer == Err(ReserveError::Memory));
+    answer.is_ok()
+}
+
 /// Makes a call once. Some calls drop the entry that they are given.
 fn called(rt: &impl Abort, alloc: Global, object: &mut IObject, row: Row, pair: Pair) -> Answer {
-    match row.1 {
+    let is_done = match row.1 {
         Insert => return Ok(letter_in(object.insert(pair.0, pair.1)?)),
         ShiftInsert(index) => {
             assert!(*rt; index <= object.len());
@@ -442,20 +448,22 @@ fn called(rt: &impl Abort, alloc: Global, object: &mut IObject, row: Row, pair: 
         IndexOrInsert | IndexContent | IndexValue => {
             return put_in(rt, alloc, object, row, pair);
         }
-        Reserve(additional) => object.reserve(additional).map_err(|why| back(pair, why))?,
-        ShrinkToFit => object.shrink_to_fit().map_err(|why| back(pair, why))?,
-        CloneOf => {
-            let copy: Result<IObject, AllocError> = object.clone();
-            set(object, copy.map_err(|_| back(pair, ReserveError::Memory))?);
-        }
+        Reserve(additional) => is_granted(rt, object.reserve(additional)),
+        ShrinkToFit => is_granted(rt, object.shrink_to_fit()),
+        CloneOf => is_set(object, object.clone()),
         ReplaceKey(old) => {
             let names = [name_of(old), pair_at(row.2, 0).0];
             drop(pair.1);
             return Ok(replaced(rt, object, names, pair.0));
         }
         _ => return by_key(rt, object, row, pair),
+    };
+    if is_done {
+        drop(pair);
+        Ok(None)
+    } else {
+        Err(back(pair, ReserveError::Memory))
     }
-    Ok(None)
 }
 
 /// Asserts that a failed allocation returned an entry.

@@ -39,6 +39,17 @@ pub fn set<T: Drop>(place: &mut T, value: T) {
     *place = value;
 }
 
+/// Replaces a value by another one, unless its allocation failed.
+pub fn is_set<T: Drop>(place: &mut T, made: Result<T, AllocError>) -> bool {
+    match made {
+        Ok(value) => {
+            set(place, value);
+            true
+        }
+        Err(AllocError) => false,
+    }
+}
+
 /// Parses `text`, with a cache of its own.
 pub fn parsed(rt: &impl Abort, alloc: Global, text: &str) -> IValue {
     let mut cache = empty_cache(alloc);
@@ -70,6 +81,14 @@ pub fn is_told<E: Error>(rt: &impl Abort, alloc: Global, fault: E, message: &str
     let error = passed_on(fault).err().expect(rt, message);
     let found = granted!(rt; format!(in alloc; "{error}"));
     assert!(*rt; found.as_str() == message, "{found} is not {message}");
+}
+
+/// Returns an integer in a type, if the type has it.
+pub fn in_type<T: TryFrom<i128>>(integer: Option<i128>) -> Option<T>
+where
+    T::Error: Drop,
+{
+    T::try_from(integer?).ok()
 }
 
 /// Returns the hash of a value.

@@ -2,7 +2,7 @@
 
 use super::built::Part::{self, Number, Text};
 use super::built::built;
-use crate::tests::support::is_shown;
+use crate::tests::support::{in_type, is_shown};
 use crate::value::IValue;
 use std::alloc::Global;
 use std::process::Abort;
@@ -20,12 +20,12 @@ static INTEGERS: [(Part, Option<i128>); 12] = [
 
 /// Returns `true` if a value converts to this integer in each type that has it.
 fn is_integer(value: &IValue, integer: Option<i128>) -> bool {
-    value.to_i32() == integer.and_then(|n| i32::try_from(n).ok())
-        && value.to_u32() == integer.and_then(|n| u32::try_from(n).ok())
-        && value.to_i64() == integer.and_then(|n| i64::try_from(n).ok())
-        && value.to_u64() == integer.and_then(|n| u64::try_from(n).ok())
-        && value.to_isize() == integer.and_then(|n| isize::try_from(n).ok())
-        && value.to_usize() == integer.and_then(|n| usize::try_from(n).ok())
+    value.to_i32() == in_type(integer)
+        && value.to_u32() == in_type(integer)
+        && value.to_i64() == in_type(integer)
+        && value.to_u64() == in_type(integer)
+        && value.to_isize() == in_type(integer)
+        && value.to_usize() == in_type(integer)
         && value.to_bool().is_none()
 }
 
