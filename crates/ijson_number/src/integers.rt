@@ -7,7 +7,7 @@ ghost use Rattle.ijson_number.specs.Integers.{HasValue, IsInteger};
 
 use crate::encode::{encode_signed, encode_unsigned};
 use crate::repr::INumber;
-use crate::repr::stored::{MAX_DIGITS, StrippedNumber};
+use crate::repr::stored::{MAX_DIGITS, Stored, StrippedNumber};
 use std::cmp::Ordering;
 
 impl INumber {
@@ -217,7 +217,12 @@ impl INumber {
         ensures none { IfNone result
             ((z : ℤ) → nat_abs z < 10 ^ 20 → HasValue self.now.decimal z → ⊥) }
     {
-        self.stripped(&mut [0; MAX_DIGITS]).whole()
+        match &self.stored {
+            Stored::I64(value) => Some(i128::from(*value)),
+            Stored::U64(value) => Some(i128::from(*value)),
+            Stored::Packed(word) if word.exponent() == 0 => Some(i128::from(word.mantissa())),
+            _ => self.stripped(&mut [0; MAX_DIGITS]).whole(),
+        }
     }
 
     /// Returns the value if it is a whole number in the range of `i64`, and `None` otherwise.
