@@ -44,6 +44,13 @@ def kit_version():
     return subprocess.run(["rt", "version"], capture_output=True, text=True, check=True).stdout.strip()
 
 
+def compilers():
+    """The first line of each compiler's version."""
+    tools = [name for name in ("rustc", "c++", "cc") if shutil.which(name)]
+    versions = (subprocess.run([name, "--version"], capture_output=True, text=True).stdout.partition("\n")[0] for name in tools)
+    return "Compilers: " + ", ".join(versions) + "."
+
+
 def stamp(source, crates):
     """A checksum of the kit, a program's source, and the files of its crates."""
     made_of = hashlib.sha256((kit_version() + source.read_text()).encode())

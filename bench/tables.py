@@ -1,11 +1,10 @@
 """Tables of bench/run, bench/calls and bench/in_process. A number in brackets is the ratio to ijson: above 1, ijson takes less."""
 
 import datetime
-import os
 import statistics
 
 from measure import FIGURES
-from peers import kit_version
+from peers import compilers, kit_version
 
 OURS = "ijson"
 EARLIER = "earlier build"
@@ -18,7 +17,7 @@ def print_conditions(turns, passes=None):
     with open("/proc/cpuinfo", encoding="utf-8") as lines:
         models = [line.partition(":")[2].strip() for line in lines if line.startswith("model name")]
     print(f"{datetime.date.today()}, {kit_version()}, {len(models)} processors {models[0]}, {turns} turns" + (f" of {passes} passes." if passes else "."))
-    print(f"Other work on the machine at the start: {os.getloadavg()[0]:.1f} processors.\n")
+    print(compilers(), end="\n\n", flush=True)
 
 
 def row(*cells):
