@@ -4,7 +4,7 @@
 //! distinct keys, equal to another in any order of its entries. `json::from_json` reads JSON and `json::to_json` writes it. Every function
 //! that allocates can return an error instead. This crate re-exports the modules of the library.
 //!
-//! The tests are in `src/tests`, for conversions, literals and errors, and in `src/examples`, small programs with contracts of their own.
+//! The tests of all modules are in `src/tests`, and small programs with contracts of their own in `src/examples`.
 #![tactic(auto)]
 
 pub mod json;
