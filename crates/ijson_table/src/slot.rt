@@ -155,20 +155,24 @@ impl Modulus {
         home as usize
     }
 
-    /// Returns the part of a hash that a hash index with this number of slots keeps.
+    /// Returns the home slot of a hash, and the part of it that a hash index with this number of slots keeps.
     ///
-    /// With at most `NARROW_SLOTS` slots, it is the home slot and eight bits of the quotient, which differ for most
-    /// other keys. Otherwise, it is the whole hash.
+    /// With at most `NARROW_SLOTS` slots, that part is the home slot and eight bits of the quotient, which differ for
+    /// most other keys. Otherwise, it is the whole hash.
     #[inline(always)]
-    pub fn kept_hash(self, hash: u64) -> u64
-        ensures { result ≡ kept self.count hash }
+    pub fn split(self, hash: u64) -> (usize, u64)
+        ensures home { result.0 ≡ hash % self.count }
+        ensures within { result.0 < self.count }
+        ensures kept { result.1 ≡ kept self.count hash }
     {
-        if self.count > NARROW_SLOTS {
-            return hash;
-        }
         let count = self.count as u64;
         let (quotient, home) = divided(hash, count, self.reciprocal);
-        quotient % 256 * count + home
+        let kept = if self.count > NARROW_SLOTS {
+            hash
+        } else {
+            quotient % 256 * count + home
+        };
+        (home as usize, kept)
     }
 }
 

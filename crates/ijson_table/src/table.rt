@@ -13,6 +13,7 @@ ghost use Rattle.ijson_table.specs.PlacedWithValue.{placed_with_value};
 ghost use Rattle.ijson_table.specs.laws.Store.{IsDistinct-prop};
 ghost use Rattle.ijson_table.specs.private.Holds.{HasEmpty, MayStand};
 ghost use Rattle.ijson_table.specs.private.IsPlaced.{IsPlaced};
+ghost use Rattle.ijson_table.specs.private.KeptHash.{kept as kept_part};
 ghost use Rattle.ijson_table.specs.private.Lookup.{LookUpEnds};
 ghost use Rattle.ijson_table.specs.private.Room.{HasRoom, IsResized};
 
@@ -166,15 +167,15 @@ impl<V: Drop, H: KeyHash> Table<V, H> {
     {
         let hash = H::hash(key.as_str());
         match self.find(hash, key.as_str(), looks) {
-            Probed::Found { at, .. } => {
+            (Probed::Found { at, .. }, _kept) => {
                 drop(key);
                 Ok(Some(mem::replace(self.value_mut(at), value)))
             }
-            Probed::Vacant(slot) if self.pairs.len() < self.pairs.capacity() => {
-                self.push_at(slot, key, value, hash);
+            (Probed::Vacant(slot), kept) if self.pairs.len() < self.pairs.capacity() => {
+                self.push_at(slot, key, value, kept);
                 Ok(None)
             }
-            Probed::Vacant(_) | Probed::Full => {
+            (Probed::Vacant(_) | Probed::Full, _kept) => {
                 if let Err(why) = self.reserve(1) {
                     return Err(RefusedPair { key, value, why });
                 }
@@ -248,8 +249,8 @@ impl<V: Drop, H: KeyHash> Table<V, H> {
         ensures capacity { self.new.store.capacity ≡ self.old.store.capacity }
     {
         match self.find(hash, key.as_str(), &mut Looks::new()) {
-            Probed::Vacant(slot) => self.push_at(slot, key, value, hash),
-            Probed::Found { .. } | Probed::Full => unreachable!(),
+            (Probed::Vacant(slot), kept) => self.push_at(slot, key, value, kept),
+            (Probed::Found { .. } | Probed::Full, _kept) => unreachable!(),
         };
     }
 
@@ -271,19 +272,19 @@ impl<V: Drop, H: KeyHash> Table<V, H> {
     }
 
     /// Like `push_hashed`, at the slot at which the probe for the key ended.
+    ///
+    /// `kept` is the part of the hash of the key that the slots keep.
     #[inline(always)]
-    fn push_at(&mut self, slot: usize, key: IString, value: V, hash: u64)
+    fn push_at(&mut self, slot: usize, key: IString, value: V, kept: u64)
         requires missing { at self.old.store.pairs key ≡ None }
-        requires hash { hash ≡ H.hash_of key }
+        requires kept { kept ≡ kept_part (length self.old.slots) (H.hash_of key) }
         requires room { length self.old.store.pairs < self.old.store.capacity }
-        requires may { MayStand (map H.hash_of (keys_of self.old.store.pairs) ++ hash ∷ []) self.old.slots
+        requires may { MayStand (map H.hash_of (keys_of self.old.store.pairs) ++ H.hash_of key ∷ []) self.old.slots
             (length (map H.hash_of (keys_of self.old.store.pairs))) slot }
         ensures pairs { self.new.store.pairs ≡ self.old.store.pairs ++ (key, value) ∷ [] }
         ensures capacity { self.new.store.capacity ≡ self.old.store.capacity }
     {
         let position = self.pairs.len();
-        // Before the entry is written, so that the compiler shares the division with `find`.
-        let kept = Modulus::new(self.slots.len()).kept_hash(hash);
         self.pairs.push_reserved((key, value));
         self.slots.shift_forward(slot, position, kept);
     }
@@ -331,7 +332,7 @@ impl<V, H: KeyHash> Table<V, H> {
         ensures bounded { IsBounded H.hash_of (keys_of self.now.store.pairs) self.now.slots
             self.now.store.capacity key.now (looks.new - looks.old) }
     {
-        match self.find(H::hash(key), key, looks).found() {
+        match self.find(H::hash(key), key, looks).0.found() {
             Some(at) => Some(&self.pairs[at].1),
             None => None,
         }
@@ -345,7 +346,7 @@ impl<V, H: KeyHash> Table<V, H> {
     pub fn get_index_of(&self, key: &str) -> Option<usize>
         ensures { result ≡ at self.now.store.pairs key.now }
     {
-        self.find(H::hash(key), key, &mut Looks::new()).found()
+        self.find(H::hash(key), key, &mut Looks::new()).0.found()
     }
 
     /// Returns whether the table has a key.
@@ -359,27 +360,29 @@ impl<V, H: KeyHash> Table<V, H> {
         self.get_index_of(key).is_some()
     }
 
-    /// Probes for a key of this hash.
+    /// Probes for a key of this hash, and returns the part of the hash that the slots keep.
     #[inline(always)]
-    fn find(&self, hash: u64, key: &str, looks: &mut Looks) -> Probed
+    fn find(&self, hash: u64, key: &str, looks: &mut Looks) -> (Probed, u64)
         requires hash { hash ≡ H.hash_of key.now }
         requires fits { looks.old + capacity_limit + 1 < 2 ^ 128 }
         ensures empty { length self.now.store.pairs < self.now.store.capacity → HasEmpty self.now.slots }
         ensures ends { LookUpEnds (map H.hash_of (keys_of self.now.store.pairs))
-            (keys_of self.now.store.pairs) self.now.slots (H.hash_of key.now) key.now result }
+            (keys_of self.now.store.pairs) self.now.slots (H.hash_of key.now) key.now result.0 }
+        ensures kept { 0 < length self.now.slots → result.1 ≡ kept_part (length self.now.slots) hash }
         ensures grows { looks.old ≤ looks.new }
         ensures bounded { IsBounded H.hash_of (keys_of self.now.store.pairs) self.now.slots
             self.now.store.capacity key.now (looks.new - looks.old) }
     {
         let count = self.slots.len();
         if count == 0 {
-            return Probed::Full;
+            return (Probed::Full, hash);
         }
         let modulus = Modulus::new(count);
-        let kept = modulus.kept_hash(hash);
-        let home = modulus.home_of_hash(hash);
-        self.slots
-            .probe_for::<V, H>(&self.pairs, modulus, kept, home, key, looks)
+        let (home, kept) = modulus.split(hash);
+        let probed = self
+            .slots
+            .probe_for::<V, H>(&self.pairs, modulus, kept, home, key, looks);
+        (probed, kept)
     }
 
     /// Creates the slots of a table of these entries with this capacity.

@@ -84,9 +84,7 @@ pub fn add_new_key<V, H: KeyHash>(
     ensures grows { steps.old < steps.new }
 {
     let key = pairs[position].0.as_str();
-    let whole = H::hash(key);
-    let hash = modulus.kept_hash(whole);
-    let home = modulus.home_of_hash(whole);
+    let (home, hash) = modulus.split(H::hash(key));
     let before = &pairs[..position];
     match slots.probe_for::<V, H>(before, modulus, hash, home, key, &mut Looks::new()) {
         Probed::Vacant(slot) => {

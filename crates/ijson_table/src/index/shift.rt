@@ -47,18 +47,18 @@ impl<'a> ProbeTarget for HashProbe<'a> {
     }
 }
 
-/// Returns the slot at which the probe for a missing key of this hash ends.
-fn vacancy(slots: &Slots, modulus: Modulus, hash: u64) -> usize
+/// Returns the slot at which the probe for a missing key with this home slot ends.
+fn vacancy(slots: &Slots, modulus: Modulus, home: usize) -> usize
     requires counted { modulus.count ≡ length slots.now }
+    requires home { home < length slots.now }
     requires empty { HasEmpty (positions slots.now) }
-    ensures { IsVacancy (displacement_in slots.now) (length slots.now) (hash % length slots.now) result }
+    ensures { IsVacancy (displacement_in slots.now) (length slots.now) home result }
 {
     let newcomer = HashProbe {
         slots,
         modulus,
         position: None,
     };
-    let home = modulus.home_of_hash(hash);
     match probe(&newcomer, modulus.count, home, &mut Looks::new()) {
         Probed::Vacant(slot) => slot,
         Probed::Found { .. } | Probed::Full => unreachable!(),
@@ -154,8 +154,9 @@ impl Slots {
     {
         take_out::<V, H>(self, pairs, position);
         let modulus = Modulus::new(self.len());
-        let slot = vacancy(self, modulus, hash);
-        self.shift_forward(slot, position, modulus.kept_hash(hash));
+        let (home, kept) = modulus.split(hash);
+        let slot = vacancy(self, modulus, home);
+        self.shift_forward(slot, position, kept);
     }
 
     /// Removes index `position` and decrements each later one.

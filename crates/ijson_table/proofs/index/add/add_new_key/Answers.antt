@@ -56,15 +56,15 @@ told g c end walks = look_up_ends g.H.KeyHash.hash_of (before g c) (positions c.
     c.as_str-key.result.now c.requires.placed.distinct (some g c) end _ walks
 
 -- the part of the hash that is kept
-part : (g : _) (c : After-probe_for g) → c.kept_hash-hash.result ≡ kept (length c.args.slots.now) (g.H.KeyHash.hash_of c.as_str-key.result.now)
-part g c = c.kept_hash-hash.ensures ∙ ap₂ kept c.requires.counted c.hash-whole.ensures
+part : (g : _) (c : After-probe_for g) → c.split-home.result.1 ≡ kept (length c.args.slots.now) (g.H.KeyHash.hash_of c.as_str-key.result.now)
+part g c = c.split-home.ensures.kept ∙ ap₂ kept c.requires.counted c.hash.ensures
 
 -- the index may be put at the end of the probe
-may : (g : _) (c : In-Vacant g) → MayPut (more g c.before) c.args.slots.now c.args.position c.kept_hash-hash.result c.in-Vacant.slot
+may : (g : _) (c : In-Vacant g) → MayPut (more g c.before) c.args.slots.now c.args.position c.split-home.result.1 c.in-Vacant.slot
 may g c =
     let w = c.before in (
       accepts (first g w) c.args.slots.now c.requires.placed.table c.args.position (g.H.KeyHash.hash_of c.as_str-key.result.now)
-          (sym (count_is g w)) c.requires.room c.kept_hash-hash.result (part g w) (omega (arith, c.requires.fits)),
+          (sym (count_is g w)) c.requires.room c.split-home.result.1 (part g w) (omega (arith, c.requires.fits)),
       subst (λ k. MayStand (more g w) (positions c.args.slots.now) k c.in-Vacant.slot) (count_is g w)
           (told g w (Vacant c.in-Vacant.slot) c.in-Vacant.ensures.ends).2,
     )
@@ -74,7 +74,7 @@ shift_forward-last-requires-clause-may g c =
     let w = (goal.at.shift_forward-last-requires-clause-may g c).In-Vacant in (more g w.before, may g w)
 
 pub shift_forward-last-requires-clause-narrow : goal.shift_forward-last-requires-clause-narrow
-shift_forward-last-requires-clause-narrow g c = may_hold (length c.args.slots.now) c.args.position c.kept_hash-hash.result
+shift_forward-last-requires-clause-narrow g c = may_hold (length c.args.slots.now) c.args.position c.split-home.result.1
     (g.H.KeyHash.hash_of c.as_str-key.result.now)
     (part g (goal.at.shift_forward-last-requires-clause-narrow g c).After-probe_for) c.requires.room
 
@@ -87,18 +87,18 @@ distance_between-requires-clause-to g c =
     omega (arith, (put g (goal.at.distance_between-requires-clause-to g c).After-shift_forward-last).within, c.requires.counted)
 
 -- a computed distance from the home slot
-away : (g : _) (c : After-probe_for g) (p d : ℕ) → d ≡ distance c.args.modulus.count c.home_of_hash-home.result p
+away : (g : _) (c : After-probe_for g) (p d : ℕ) → d ≡ distance c.args.modulus.count c.split-home.result.0 p
     → d ≡ distance (length (positions c.args.slots.now)) (home_of g.H.KeyHash.hash_of (length (positions c.args.slots.now)) c.as_str-key.result.now) p
-away g c p d is = is ∙ (ap (λ h. distance c.args.modulus.count h p) (c.home_of_hash-home.ensures.value ∙ ap (λ h. h % c.args.modulus.count)
-    c.hash-whole.ensures)
+away g c p d is = is ∙ (ap (λ h. distance c.args.modulus.count h p) (c.split-home.ensures.home ∙ ap (λ h. h % c.args.modulus.count)
+    c.hash.ensures)
     ∙ ap (λ n. distance n (home_of g.H.KeyHash.hash_of n c.as_str-key.result.now) p) (c.requires.counted ∙ sym (size g c)))
 
-near : (g : _) (c : After-probe_for g) (p d : ℕ) → d ≡ distance c.args.modulus.count c.home_of_hash-home.result p → p < length c.args.slots.now
+near : (g : _) (c : After-probe_for g) (p d : ℕ) → d ≡ distance c.args.modulus.count c.split-home.result.0 p → p < length c.args.slots.now
     → d < length c.args.slots.now
 near g c p d is there = omega (
   arith,
   is,
-  distance-below c.args.modulus.count c.home_of_hash-home.result p c.home_of_hash-home.ensures.within (omega (arith, there, c.requires.counted)),
+  distance-below c.args.modulus.count c.split-home.result.0 p c.split-home.ensures.within (omega (arith, there, c.requires.counted)),
   c.requires.counted,
 )
 

@@ -11,7 +11,7 @@ told : (g : _) (c : After-found g) → at c.args.self.now.store.pairs c.args.key
 told g c =
     let keys = keys_of c.args.self.now.store.pairs in
     sym (found_at-ends (map g.H.KeyHash.hash_of keys) keys c.args.self.now.slots (g.H.KeyHash.hash_of c.args.key.now) c.args.key.now
-    c.find.result c.find.ensures.ends) ∙ sym c.found.ensures
+    c.find.result.0 c.find.ensures.ends) ∙ sym c.found.ensures
 
 pub index-requires : goal.index-requires
 index-requires g c = omega (

@@ -2,35 +2,45 @@ use Rattle.std.proofs.Common.{◌≡◌, ◌<◌, Some, None, length, arith, rul
 use Rattle.std.specs.Prelude.{vec_capacity}
 use Rattle.ijson_table.specs.Growth.{Grown}
 use Rattle.ijson_table.specs.Placed.{Placed}
-use Rattle.ijson_table.specs.Store.{at, with_value}
+use Rattle.ijson_table.specs.Store.{at, keys_of, with_value}
+use Rattle.ijson_table.specs.declared.index.probe.Probed.{Probed}
+use Rattle.ijson_table.specs.declared.index.probe.Probed.TheVariants.{Found, Vacant}
+use Rattle.ijson_table.specs.private.Lookup.{LookUpEnds}
 use Rattle.ijson_table.proofs.pairs.NewPairs.{put_last}
 use Rattle.ijson_table.proofs.pairs.PairsByKey.{lookup-absent, position_within}
-use Rattle.ijson_table.proofs.probing.KeyHashes.{had_room}
+use Rattle.ijson_table.proofs.probing.KeyHashes.{had_room, hashes}
 use Rattle.ijson_table.proofs.pairs.Replaced.{replaced}
-use Rattle.ijson_table.proofs.table.Table.insert_counted.Goals.{After-reserve, In-Found}
+use Rattle.ijson_table.proofs.table.Table.insert_counted.Goals.{After-find, After-reserve, In-Found-default}
 use Rattle.ijson_table.proofs.table.Table.insert_counted.Goals as goal
 
+-- the end of the lookup
+ended : (g : _) (c : After-find g) (end : Probed) → c.find.result.0 ≡ end → LookUpEnds (hashes g.H.KeyHash.hash_of c.args.self.now.store.pairs)
+    (keys_of c.args.self.now.store.pairs) c.args.self.now.slots (g.H.KeyHash.hash_of c.as_str-2.result.now) c.as_str-2.result.now end
+ended g c end is = subst (LookUpEnds (hashes g.H.KeyHash.hash_of c.args.self.now.store.pairs) (keys_of c.args.self.now.store.pairs)
+    c.args.self.now.slots (g.H.KeyHash.hash_of c.as_str-2.result.now) c.as_str-2.result.now) is c.find.ensures.ends
+
 -- the index at which the key was found
-found : (g : _) (c : In-Found g) → at c.args.self.now.store.pairs c.args.key ≡ Some c.in-Found.at
-found g c = ap (at c.args.self.now.store.pairs) (sym c.as_str-2.ensures) ∙ c.in-Found.ensures.ends
+found : (g : _) (c : In-Found-default g) → at c.args.self.now.store.pairs c.args.key ≡ Some c.in-Found-default.at
+found g c = ap (at c.args.self.now.store.pairs) (sym c.as_str-2.ensures) ∙ ended g c.before (Found c.in-Found-default.at c.in-Found-default.slot-0) c.in-Found-default.is-0
 
 pub value_mut-requires : goal.value_mut-requires
-value_mut-requires g c = position_within c.args.self.now.store.pairs c.args.key c.in-Found.at
-    (found g (goal.at.value_mut-requires g c).In-Found)
+value_mut-requires g c = position_within c.args.self.now.store.pairs c.args.key c.in-Found-default.at
+    (found g (goal.at.value_mut-requires g c).In-Found-default)
 
-pub returns-in-Found-clause-inserts : goal.returns-in-Found-clause-inserts
-returns-in-Found-clause-inserts g c =
+pub returns-in-Found-default-clause-inserts : goal.returns-in-Found-default-clause-inserts
+returns-in-Found-default-clause-inserts g c =
     let before = c.args.self.now.store.pairs in
     let told = c.value_mut.ensures.value in
-    let kept = replaced before _ c.in-Found.at (told.0, c.value_mut.result.now) c.args.key c.args.value c.replace.result told.1
-    c.replace.ensures.value (ap (with_value before c.in-Found.at) c.replace.ensures.after)
-    (found g (goal.at.returns-in-Found-clause-inserts g c).In-Found) in
+    let kept = replaced before _ c.in-Found-default.at (told.0, c.value_mut.result.now) c.args.key c.args.value c.replace.result told.1
+    c.replace.ensures.value (ap (with_value before c.in-Found-default.at) c.replace.ensures.after)
+    (found g (goal.at.returns-in-Found-default-clause-inserts g c).In-Found-default) in
     (kept.0, kept.1, refl)
 
-pub returns-in-Vacant-clause-inserts : goal.returns-in-Vacant-clause-inserts
-returns-in-Vacant-clause-inserts g c =
+pub returns-in-Vacant-default-clause-inserts : goal.returns-in-Vacant-default-clause-inserts
+returns-in-Vacant-default-clause-inserts g c =
     let pairs = c.args.self.now.store.pairs in
-    let missing = ap (at pairs) (sym c.as_str-2.ensures) ∙ c.in-Vacant.ensures.ends.0 in
+    let missing = ap (at pairs) (sym c.as_str-2.ensures)
+    ∙ (ended g (goal.at.returns-in-Vacant-default-clause-inserts g c).After-find (Vacant c.in-Vacant-default.slot) c.in-Vacant-default.is-0).0 in
     let room : length c.self.inside.pairs.items < vec_capacity c.self.inside.pairs =
     omega (arith, c.if-len-capacity.true, c.capacity.ensures, c.len.ensures) in (
       lookup-absent pairs c.args.key missing,

@@ -9,6 +9,7 @@ use Rattle.ijson_table.specs.private.SlotHashes.{positions}
 use Rattle.ijson_table.proofs.pairs.Shown.{count_shown, pairs_shown, room_shown}
 use Rattle.ijson_table.proofs.pairs.NewPairs.{still_distinct}
 use Rattle.ijson_table.proofs.probing.KeyHashes.{hashes, hashes-push, length-hashes}
+use Rattle.ijson_table.proofs.slots.HashesInSlots.{positions-length}
 use Rattle.ijson_table.proofs.slots.NarrowSlots.{may_hold}
 use Rattle.ijson_table.proofs.slots.SlotTables.{accepts, pushed}
 use Rattle.ijson_table.proofs.table.Table.push_at.Goals.{After-push_reserved}
@@ -30,27 +31,28 @@ inside : (g : _) (c : After-push_reserved g) → c.len-position.result < length 
 inside g c = omega (arith, room g c, next g c, length-hashes g.H.KeyHash.hash_of c.self.inside.pairs.items, c.self.invariant.size)
 
 -- the slots keep this part of the hash
-part : (g : _) (c : After-push_reserved g) → c.kept_hash-kept.result ≡ kept (length c.self.inside.slots) c.args.hash
-part g c = c.kept_hash-kept.ensures ∙ ap (λ n. kept n c.args.hash) (c.new.ensures ∙ c.len.ensures)
+part : (g : _) (c : After-push_reserved g) → c.args.kept ≡ kept (length c.self.inside.slots) (g.H.KeyHash.hash_of c.args.key)
+part g c = c.requires.kept ∙ ap (λ n. kept n (g.H.KeyHash.hash_of c.args.key)) (sym (ap (λ (t : Placed g.row.V.Denot). length t.slots) c.self.view_is)
+    ∙ positions-length c.self.inside.slots)
 
-may : (g : _) (c : After-push_reserved g) → MayPut (old g c ++ c.args.hash ∷ []) c.self.inside.slots c.len-position.result c.kept_hash-kept.result
+may : (g : _) (c : After-push_reserved g) → MayPut (old g c ++ g.H.KeyHash.hash_of c.args.key ∷ []) c.self.inside.slots c.len-position.result c.args.kept
     c.args.slot
 may g c = (
-  accepts (old g c) c.self.inside.slots c.self.invariant.table c.len-position.result c.args.hash (next g c) (inside g c)
-      c.kept_hash-kept.result (part g c) (omega (arith, c.self.invariant.size, c.self.invariant.room.limited)),
-  subst (λ n. MayStand (old g c ++ c.args.hash ∷ []) (positions c.self.inside.slots) n c.args.slot) (sym (next g c))
-      (subst (λ (t : Placed g.row.V.Denot). MayStand (hashes g.H.KeyHash.hash_of t.store.pairs ++ c.args.hash ∷ []) t.slots
+  accepts (old g c) c.self.inside.slots c.self.invariant.table c.len-position.result (g.H.KeyHash.hash_of c.args.key) (next g c) (inside g c)
+      c.args.kept (part g c) (omega (arith, c.self.invariant.size, c.self.invariant.room.limited)),
+  subst (λ n. MayStand (old g c ++ g.H.KeyHash.hash_of c.args.key ∷ []) (positions c.self.inside.slots) n c.args.slot) (sym (next g c))
+      (subst (λ (t : Placed g.row.V.Denot). MayStand (hashes g.H.KeyHash.hash_of t.store.pairs ++ g.H.KeyHash.hash_of c.args.key ∷ []) t.slots
       (length (hashes g.H.KeyHash.hash_of t.store.pairs)) c.args.slot) (sym c.self.view_is) c.requires.may),
 )
 
 pub shift_forward-requires-clause-may : goal.shift_forward-requires-clause-may
 shift_forward-requires-clause-may g c =
-    let w = (goal.at.shift_forward-requires-clause-may g c).After-push_reserved in (old g w ++ c.args.hash ∷ [], may g w)
+    let w = (goal.at.shift_forward-requires-clause-may g c).After-push_reserved in (old g w ++ g.H.KeyHash.hash_of c.args.key ∷ [], may g w)
 
 pub shift_forward-requires-clause-narrow : goal.shift_forward-requires-clause-narrow
 shift_forward-requires-clause-narrow g c =
     let w = (goal.at.shift_forward-requires-clause-narrow g c).After-push_reserved in
-    may_hold (length c.self.inside.slots) c.len-position.result c.kept_hash-kept.result c.args.hash (part g w) (inside g w)
+    may_hold (length c.self.inside.slots) c.len-position.result c.args.kept (g.H.KeyHash.hash_of c.args.key) (part g w) (inside g w)
 
 pub invariant_of-self-inside : goal.invariant_of-self-inside
 invariant_of-self-inside g c =
@@ -61,7 +63,7 @@ pub invariant_of-self : goal.invariant_of-self
 invariant_of-self g c =
     let w = (goal.at.invariant_of-self g c).After-push_reserved in
     let items = c.push_reserved.ensures.items in
-    let put = c.shift_forward.ensures (old g w ++ c.args.hash ∷ []) (may g w) in
+    let put = c.shift_forward.ensures (old g w ++ g.H.KeyHash.hash_of c.args.key ∷ []) (may g w) in
     record {
       room = record {
         within = omega (
@@ -73,10 +75,9 @@ invariant_of-self g c =
         );
         limited = omega (arith, c.self.invariant.room.limited, c.push_reserved.ensures.capacity);
       };
-      table = subst (λ hs. IsTableOf hs c.shift_forward.new.self) (ap (λ h. old g w ++ h ∷ []) c.requires.hash
-          ∙ (sym (hashes-push g.H.KeyHash.hash_of c.self.inside.pairs.items c.args.key c.args.value)
-          ∙ ap (hashes g.H.KeyHash.hash_of) (sym items)))
-          (pushed (old g w) c.self.inside.slots c.self.invariant.table c.len-position.result c.args.hash (next g w) (inside g w)
+      table = subst (λ hs. IsTableOf hs c.shift_forward.new.self) (sym (hashes-push g.H.KeyHash.hash_of c.self.inside.pairs.items c.args.key c.args.value)
+          ∙ ap (hashes g.H.KeyHash.hash_of) (sym items))
+          (pushed (old g w) c.self.inside.slots c.self.invariant.table c.len-position.result (g.H.KeyHash.hash_of c.args.key) (next g w) (inside g w)
           c.shift_forward.new.self put.count put.holds put.hashes_are);
       size = put.count ∙ (c.self.invariant.size ∙ ap slot_count (sym c.push_reserved.ensures.capacity));
     }

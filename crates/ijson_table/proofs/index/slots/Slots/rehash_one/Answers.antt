@@ -1,11 +1,12 @@
-use Rattle.std.proofs.Common.{◌≡◌, ◌≢◌, ◌<◌, ◌≤◌, ℕ, length, get_or, set, arith, ap, sym, get_or-set_other, get_or-set_same, subst, ◌∙◌}
+use Rattle.std.proofs.Common.{◌≡◌, ◌≢◌, ◌<◌, ◌≤◌, ◌%◌, ℕ, length, get_or, set, arith, ap, sym, get_or-set_other, get_or-set_same, subst, ◌∙◌}
 use Rattle.std.proofs.lemmas.Bool.Decides.{nat_tests}
 use Rattle.std.proofs.lemmas.List.{length-set}
 use Rattle.ijson_table.specs.Slots.{below}
 use Rattle.ijson_table.specs.private.Holds.{HasEmpty}
 use Rattle.ijson_table.specs.private.Insertion.{MayPut}
 use Rattle.ijson_table.specs.private.KeptHash.{kept}
-use Rattle.ijson_table.specs.private.SlotHashes.{positions, HaveHashes}
+use Rattle.ijson_table.specs.private.Probe.{IsVacancy}
+use Rattle.ijson_table.specs.private.SlotHashes.{displacement_in, positions, HaveHashes}
 use Rattle.ijson_table.proofs.probing.KeyHashes.{hashes, length-hashes}
 use Rattle.ijson_table.proofs.shifting.Insertion.{some_empty}
 use Rattle.ijson_table.proofs.shifting.Removal.{but_hashes, but_ordered}
@@ -14,7 +15,7 @@ use Rattle.ijson_table.proofs.slots.HashesInSlots.{positions-length}
 use Rattle.ijson_table.proofs.slots.NarrowSlots.{may_hold}
 use Rattle.ijson_table.proofs.slots.Residents.{one_if-same}
 use Rattle.ijson_table.proofs.index.slots.Slots.rehash_one.Given.{Over}
-use Rattle.ijson_table.proofs.index.slots.Slots.rehash_one.Goals.{After-kept_hash, After-take_out}
+use Rattle.ijson_table.proofs.index.slots.Slots.rehash_one.Goals.{After-vacancy-slot, After-take_out}
 use Rattle.ijson_table.proofs.index.slots.Slots.rehash_one.Goals as goal
 
 -- there is a slot for each index
@@ -38,39 +39,43 @@ pub vacancy-slot-requires-clause-empty : goal.vacancy-slot-requires-clause-empty
 vacancy-slot-requires-clause-empty g c = empty g (goal.at.vacancy-slot-requires-clause-empty g c).After-take_out
 
 -- the index may be inserted again, by its new hash
-may : (g : Over) (c : After-kept_hash g) → MayPut (set (hashes g.H.KeyHash.hash_of c.args.pairs.now) c.args.position c.args.hash)
-    c.take_out.new.slots c.args.position c.kept_hash.result c.vacancy-slot.result
+may : (g : Over) (c : After-vacancy-slot g) → MayPut (set (hashes g.H.KeyHash.hash_of c.args.pairs.now) c.args.position c.args.hash)
+    c.take_out.new.slots c.args.position c.split-home.result.1 c.vacancy-slot.result
 may g c =
     let was = hashes g.H.KeyHash.hash_of c.args.pairs.now in
-    let at = (goal.at.shift_forward-requires-clause-may g c).After-take_out in
+    let at = c.before.before.before.before in
     let own = get_or-set_same was c.args.position c.args.hash 0 (inside g at) in
     let same : (k : ℕ) → k < length was → k ≢ c.args.position → get_or (set was c.args.position c.args.hash) k 0 ≡ get_or was k 0 =
     λ k lk other. get_or-set_other was c.args.position k c.args.hash 0 other in
     let have = but_hashes _ _ _ c.take_out.ensures.left (set was c.args.position c.args.hash) same in (
       record {
         fits = omega (arith, room g at, inside g at, c.len.type_inv, c.len.ensures);
-        hash_is = c.kept_hash.ensures ∙ (ap (λ n. kept n c.args.hash) (c.new-modulus.ensures ∙ c.len.ensures)
+        hash_is = c.split-home.ensures.kept ∙ (ap (λ n. kept n c.args.hash) (c.new-modulus.ensures ∙ c.len.ensures)
             ∙ ap (kept (length c.take_out.new.slots)) (sym own));
         hashes_are = have;
         ordered = but_ordered _ _ _ c.take_out.ensures.left (set was c.args.position c.args.hash) same;
         empty = empty g at;
       },
       may_stand (set was c.args.position c.args.hash) c.take_out.new.slots c.args.position c.args.hash c.vacancy-slot.result (sym own) have
-          c.vacancy-slot.ensures,
+          (subst (λ h. IsVacancy (displacement_in c.take_out.new.slots) (length c.take_out.new.slots) h c.vacancy-slot.result)
+          (c.split-home.ensures.home ∙ ap (λ n. c.args.hash % n) (c.new-modulus.ensures ∙ c.len.ensures)) c.vacancy-slot.ensures),
     )
 
 pub shift_forward-requires-clause-may : goal.shift_forward-requires-clause-may
-shift_forward-requires-clause-may g c = (set (hashes g.H.KeyHash.hash_of c.args.pairs.now) c.args.position c.args.hash, may g c)
+shift_forward-requires-clause-may g c = (
+  set (hashes g.H.KeyHash.hash_of c.args.pairs.now) c.args.position c.args.hash,
+  may g (goal.at.shift_forward-requires-clause-may g c).After-vacancy-slot,
+)
 
 pub shift_forward-requires-clause-narrow : goal.shift_forward-requires-clause-narrow
-shift_forward-requires-clause-narrow g c = may_hold (length c.take_out.new.slots) c.args.position c.kept_hash.result c.args.hash
-    (c.kept_hash.ensures ∙ ap (λ n. kept n c.args.hash) (c.new-modulus.ensures ∙ c.len.ensures))
+shift_forward-requires-clause-narrow g c = may_hold (length c.take_out.new.slots) c.args.position c.split-home.result.1 c.args.hash
+    (c.split-home.ensures.kept ∙ ap (λ n. kept n c.args.hash) (c.new-modulus.ensures ∙ c.len.ensures))
     (omega (arith, c.requires.within, c.requires.room, c.take_out.ensures.count))
 
 pub returns-clause-table : goal.returns-clause-table
 returns-clause-table g c =
     let was = hashes g.H.KeyHash.hash_of c.args.pairs.now in
-    let put = c.shift_forward.ensures (set was c.args.position c.args.hash) (may g (goal.at.returns-clause-table g c).After-kept_hash) in
+    let put = c.shift_forward.ensures (set was c.args.position c.args.hash) (may g (goal.at.returns-clause-table g c).After-vacancy-slot) in
     record {
       table = record {
         ordered = put.holds.ordered;
@@ -85,4 +90,4 @@ returns-clause-table g c =
     }
 
 pub returns-clause-count : goal.returns-clause-count
-returns-clause-count g c = (c.shift_forward.ensures _ (may g (goal.at.returns-clause-count g c).After-kept_hash)).count ∙ c.take_out.ensures.count
+returns-clause-count g c = (c.shift_forward.ensures _ (may g (goal.at.returns-clause-count g c).After-vacancy-slot)).count ∙ c.take_out.ensures.count
