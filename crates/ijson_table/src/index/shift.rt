@@ -84,13 +84,14 @@ fn slot_of(slots: &Slots, modulus: Modulus, position: usize, hash: u64) -> usize
     }
 }
 
-/// Removes an index from the slots of a table of these pairs.
+/// Removes an index from the slots of a table of these pairs, and returns the modulus of the slots.
 ///
 /// Residents after its slot are shifted back by one slot, up to an empty slot or a resident at its home slot.
-fn take_out<V, H: KeyHash>(slots: &mut Slots, pairs: &[(IString, V)], position: usize)
+fn take_out<V, H: KeyHash>(slots: &mut Slots, pairs: &[(IString, V)], position: usize) -> Modulus
     requires table { IsTableOf (map H.hash_of (keys_of pairs.now)) slots.old }
     requires within { position < length pairs.now }
     ensures left { IsTableBut (map H.hash_of (keys_of pairs.now)) position slots.new }
+    ensures modulus { result.count ≡ length slots.new }
     ensures count { length slots.new ≡ length slots.old }
 {
     let modulus = Modulus::new(slots.len());
@@ -106,7 +107,7 @@ fn take_out<V, H: KeyHash>(slots: &mut Slots, pairs: &[(IString, V)], position: 
         let behind = slots.at(next);
         let home = modulus.home_of_hash(behind.hash);
         if behind.is_empty() || distance_between(modulus.count, home, next) == 0 {
-            return;
+            return modulus;
         }
         slots.set(gap, behind);
         slots.set(next, Slot::EMPTY);
@@ -133,12 +134,11 @@ impl Slots {
         ensures table { IsTableOf (swapped_out (map H.hash_of (keys_of pairs.now)) position 0) self.new }
         ensures count { length self.new ≡ length self.old }
     {
-        take_out::<V, H>(self, pairs, position);
+        let modulus = take_out::<V, H>(self, pairs, position);
         let last = pairs.len() - 1;
         if position == last {
             return;
         }
-        let modulus = Modulus::new(self.len());
         let there = slot_of(self, modulus, last, H::hash(pairs[last].0.as_str()));
         let moved = self.at(there).hash;
         self.set(there, Slot::of(position, moved));
@@ -152,8 +152,7 @@ impl Slots {
         ensures table { IsTableOf (set (map H.hash_of (keys_of pairs.now)) position hash) self.new }
         ensures count { length self.new ≡ length self.old }
     {
-        take_out::<V, H>(self, pairs, position);
-        let modulus = Modulus::new(self.len());
+        let modulus = take_out::<V, H>(self, pairs, position);
         let (home, kept) = modulus.split(hash);
         let slot = vacancy(self, modulus, home);
         self.shift_forward(slot, position, kept);

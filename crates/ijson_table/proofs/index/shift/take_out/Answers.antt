@@ -14,7 +14,7 @@ use Rattle.ijson_table.proofs.slots.HashesInSlots.{hashes-written, displacement-
 use Rattle.ijson_table.proofs.slots.Residents.{some_position, times-set}
 use Rattle.ijson_table.proofs.index.shift.take_out.Given.{Over}
 use Rattle.ijson_table.proofs.index.shift.take_out.Invariants.{HasGapAt}
-use Rattle.ijson_table.proofs.index.shift.take_out.Goals.{After-is_empty, After-len, After-set-in-loop-modulus-2, then-is_empty-via-then-is_empty}
+use Rattle.ijson_table.proofs.index.shift.take_out.Goals.{After-is_empty, After-len, After-set-in-loop-behind-2, then-is_empty-via-then-is_empty}
 use Rattle.ijson_table.proofs.index.shift.take_out.Goals.{then-is_empty-via-else-is_empty+then-distance_between-eq0}
 use Rattle.ijson_table.proofs.index.shift.take_out.Goals as goal
 
@@ -101,8 +101,8 @@ slot_of-gap-requires g c = record {
   );
 }
 
-pub loop-modulus-init : goal.loop-modulus-init
-loop-modulus-init g c =
+pub loop-behind-init : goal.loop-behind-init
+loop-behind-init g c =
     let hashes = key_hashes g.H.KeyHash.hash_of c.args.pairs.now in
     let slots = c.args.slots.now in
     let gap : ℕ = c.slot_of-gap.result in
@@ -134,7 +134,7 @@ home_is g c = ap (λ h. distance c.new-modulus.result.count h c.next_slot-next.r
 pub returns-then-is_empty-clause-left : goal.returns-then-is_empty-clause-left
 returns-then-is_empty-clause-left g c =
     let at = (goal.at.returns-then-is_empty-clause-left g c).After-is_empty in
-    let was = c.loop-modulus.invariant in
+    let was = c.loop-behind.invariant in
     record {
       holds = record {
         ordered = elim c.then-is_empty.branch [
@@ -155,26 +155,26 @@ returns-then-is_empty-clause-left g c =
     }
 
 -- the slots after it moved
-now_is : (g : _) (c : After-set-in-loop-modulus-2 g) → c.set-in-loop-modulus-2.new.self
-    ≡ set (set c.loop-modulus.slots c.loop-modulus.gap c.at-behind.result) c.next_slot-next.result blank
-now_is g c = c.set-in-loop-modulus-2.ensures ∙ ap (λ qs. set qs c.next_slot-next.result blank) c.set-in-loop-modulus.ensures
+now_is : (g : _) (c : After-set-in-loop-behind-2 g) → c.set-in-loop-behind-2.new.self
+    ≡ set (set c.loop-behind.slots c.loop-behind.gap c.at-behind.result) c.next_slot-next.result blank
+now_is g c = c.set-in-loop-behind-2.ensures ∙ ap (λ qs. set qs c.next_slot-next.result blank) c.set-in-loop-behind.ensures
 
-pub loop-modulus-smaller : goal.loop-modulus-smaller
-loop-modulus-smaller g c =
-    let at = (goal.at.loop-modulus-smaller g c).After-is_empty in
+pub loop-behind-smaller : goal.loop-behind-smaller
+loop-behind-smaller g c =
+    let at = (goal.at.loop-behind-smaller g c).After-is_empty in
     let who = resides g at c.if-is_empty.false in
     omega (
       arith,
-      falls _ _ _ _ _ c.loop-modulus.invariant _ _ c.next_slot-next.ensures.slot c.at-behind.ensures.value who.0 c.distance_between.result who.1
+      falls _ _ _ _ _ c.loop-behind.invariant _ _ c.next_slot-next.ensures.slot c.at-behind.ensures.value who.0 c.distance_between.result who.1
           (c.distance_between.ensures ∙ home_is g at) c.if-distance_between-eq0.false,
       ap (λ qs. all_displacements (key_hashes g.H.KeyHash.hash_of c.args.pairs.now) (positions qs)) (now_is g c),
     )
 
-pub loop-modulus-preserved : goal.loop-modulus-preserved
-loop-modulus-preserved g c =
-    let at = (goal.at.loop-modulus-preserved g c).After-is_empty in
+pub loop-behind-preserved : goal.loop-behind-preserved
+loop-behind-preserved g c =
+    let at = (goal.at.loop-behind-preserved g c).After-is_empty in
     let who = resides g at c.if-is_empty.false in
     subst (λ qs. HasGapAt (key_hashes g.H.KeyHash.hash_of c.args.pairs.now) c.args.position c.new-modulus.result.count qs c.next_slot-next.result)
     (sym (now_is g c))
-    (goes_on _ _ _ _ _ c.loop-modulus.invariant _ _ c.next_slot-next.ensures.slot c.at-behind.ensures.value who.0 c.distance_between.result who.1
+    (goes_on _ _ _ _ _ c.loop-behind.invariant _ _ c.next_slot-next.ensures.slot c.at-behind.ensures.value who.0 c.distance_between.result who.1
     (c.distance_between.ensures ∙ home_is g at) c.if-distance_between-eq0.false)

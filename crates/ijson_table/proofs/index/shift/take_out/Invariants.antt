@@ -14,8 +14,8 @@ pub record HasGapAt (hashes : List ℕ) (gone count : ℕ) (slots : List Slot) (
   pub hashes_are : HaveHashes (length slots) hashes slots
   pub size : length slots ≡ count
 
-abbrev pub invariant-loop-modulus : goal.invariant-loop-modulus
-invariant-loop-modulus g l = HasGapAt (map g.H.KeyHash.hash_of (keys_of l.fn.pairs)) l.fn.position l.modulus.count l.slots l.gap
+abbrev pub invariant-loop-behind : goal.invariant-loop-behind
+invariant-loop-behind g l = HasGapAt (map g.H.KeyHash.hash_of (keys_of l.fn.pairs)) l.fn.position l.modulus.count l.slots l.gap
 
-abbrev pub decreases-loop-modulus : goal.decreases-loop-modulus
-decreases-loop-modulus g l = all_displacements (map g.H.KeyHash.hash_of (keys_of l.fn.pairs)) (positions l.slots)
+abbrev pub decreases-loop-behind : goal.decreases-loop-behind
+decreases-loop-behind g l = all_displacements (map g.H.KeyHash.hash_of (keys_of l.fn.pairs)) (positions l.slots)
