@@ -5,4 +5,3 @@ pub mod duplicates;
 pub mod earlier;
 pub mod merge_sort;
 pub mod order;
-pub mod second_hash;

@@ -1,16 +1,17 @@
--- The slots to which entries sorted by home slot are written.
+-- The slots to which sorted entries are written.
 use Rattle.std.proofs.Common.{◌≡◌, ◌≢◌, ◌⊎◌, ℕ, zero, suc, ◌+◌, ◌-◌, ◌<◌, ◌≤◌, inl, inr, arith, List, length, get_or, max, ap}
 use Rattle.std.specs.Prelude.{ltb, if◌then◌else◌}
-use Rattle.std.proofs.lemmas.Bool.{cases_eq, cases_lt, leb-true}
+use Rattle.std.proofs.lemmas.Bool.{cases_eq, cases_lt}
 use Rattle.std.proofs.lemmas.Bool.Decides.{nat_tests}
 use Rattle.std.proofs.lemmas.Nat.{mod_below}
 use Rattle.ijson_table.specs.declared.slot.Slot.{Slot}
 use Rattle.ijson_table.specs.Crowd.{distance}
 use Rattle.ijson_table.specs.Slots.{after}
-use Rattle.ijson_table.specs.private.HomeOrder.{home_before, home_of_entry, next_after, passing}
+use Rattle.ijson_table.specs.private.EntryOrder.{entry_before}
+use Rattle.ijson_table.specs.private.HomeOrder.{home_of_entry, next_after, passing}
 use Rattle.ijson_table.specs.private.SlotHashes.{blank}
 use Rattle.ijson_table.specs.private.Sorting.{IsSortedBy}
-use Rattle.ijson_table.proofs.firsts.KeyTies.{sorted_at}
+use Rattle.ijson_table.proofs.firsts.KeyTies.{homes_ascend, sorted_at}
 
 -- the slot at a number below 2 * n, around the end of n slots
 unfoldable pub wrapped : ℕ → ℕ → ℕ
@@ -57,7 +58,8 @@ pub record ArePlaces (n : ℕ) (sorted : List Slot) (p : ℕ → ℕ) : Type 0 w
       ⊎ ((i : ℕ) × (i < length sorted) × (after n (p i) ≡ p k)
       × (distance n (home_of_entry n sorted k) (p k) ≤ distance n (home_of_entry n sorted i) (p i) + 1))
 
-module _ (n : ℕ) (sorted : List Slot) (room : length sorted ≤ n) (ordered : IsSortedBy (home_before n) sorted) where
+module _ (n : ℕ) (sorted : List Slot) (room : length sorted ≤ n) (keys : List (List ℕ))
+    (ordered : IsSortedBy (entry_before n keys) sorted) where
   abbrev m : ℕ
   m = length sorted
 
@@ -74,7 +76,7 @@ module _ (n : ℕ) (sorted : List Slot) (room : length sorted ≤ n) (ordered : 
   h-below k lk = mod_below (get_or sorted k blank).hash n (omega (arith, room))
 
   h-ascends : (j k : ℕ) → j < k → k < m → h j ≤ h k
-  h-ascends j k less lk = leb-true (h j) (h k) (sorted_at (home_before n) sorted ordered j k less lk)
+  h-ascends j k less lk = homes_ascend n keys (get_or sorted j blank) (get_or sorted k blank) (sorted_at (entry_before n keys) sorted ordered j k less lk)
 
   -- k entries, and the later ones, from the first slot on
   split : (k : ℕ) → k < m → n + w + k ≤ max (n + k) (max (h k + k) (n - 1) + m)

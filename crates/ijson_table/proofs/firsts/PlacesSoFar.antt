@@ -6,7 +6,7 @@ use Rattle.std.proofs.lemmas.List.{at_drop_more, get_or-take, get_or_read, lengt
 use Rattle.std.proofs.lemmas.List.Edits.{length-swap}
 use Rattle.std.proofs.lemmas.Bool.{cases_eq}
 use Rattle.ijson_table.specs.Store.{at, keys_of, put, put_each}
-use Rattle.ijson_table.specs.private.KeyOrder.{AreEarlier, IsEarlier}
+use Rattle.ijson_table.specs.private.EntryOrder.{AreEarlier, IsEarlier}
 use Rattle.ijson_table.proofs.firsts.PutPlaces.{at-put_each, at-put_kept, at-put_new, put_each-more}
 use Rattle.ijson_table.proofs.pairs.PairsByKey.{key_at, keys-length}
 use Rattle.ijson_table.proofs.pairs.PutInPlace.{before, Moved, moved_first, moved_left, next, next_key, one_more, over_left, over_put}

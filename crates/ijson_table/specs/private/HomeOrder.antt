@@ -1,5 +1,5 @@
--- Entries in the order of their home slots, and the slots to which they are written.
-use Rattle.std.specs.Prelude.{ℕ, zero, suc, ◌+◌, ◌-◌, ◌%◌, Bool, leb, max, List, length, get_or}
+-- The home slots of entries, and the slots to which they are written.
+use Rattle.std.specs.Prelude.{ℕ, zero, suc, ◌+◌, ◌-◌, ◌%◌, max, List, length, get_or}
 use Rattle.ijson_table.specs.private.SlotHashes.{blank}
 use Rattle.ijson_table.specs.private.Sorting.{Entry}
 
@@ -10,10 +10,6 @@ home_in n entry = entry.hash % n
 -- that of the entry at an index
 abbrev pub home_of_entry : ℕ → List Entry → ℕ → ℕ
 home_of_entry n entries k = home_in n (get_or entries k blank)
-
--- whether one entry may precede another
-abbrev pub home_before : ℕ → Entry → Entry → Bool
-home_before n a b = leb (home_in n a) (home_in n b)
 
 -- The slot after the first k entries with these home slots. Each is written to its home slot, or right after the
 -- previous one if that is further on, and the first one no earlier than the start.

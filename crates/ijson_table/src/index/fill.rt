@@ -4,16 +4,16 @@ ghost use Rattle.std.specs.Prelude.{◌≡◌, ℕ, ◌+◌, ◌-◌, ◌*◌, �
 ghost use Rattle.ijson_table.specs.Growth.{capacity_limit};
 ghost use Rattle.ijson_table.specs.Store.{keys_of};
 ghost use Rattle.ijson_table.specs.private.Entries.{AreEntries};
-ghost use Rattle.ijson_table.specs.private.HomeOrder.{home_before, passing};
+ghost use Rattle.ijson_table.specs.private.EntryOrder.{entry_before};
+ghost use Rattle.ijson_table.specs.private.HomeOrder.{passing};
 ghost use Rattle.ijson_table.specs.private.Insertion.{IsTableOf};
 ghost use Rattle.ijson_table.specs.private.Sorting.{IsSortedBy};
 
 use crate::hash::KeyHash;
 use crate::index::slots::Slots;
 use crate::slot::{Modulus, Slot};
-use crate::sorting::build::entries_of;
-use crate::sorting::merge_sort::merge_sort;
-use crate::sorting::order::HomeOrder;
+use crate::sorting::build::sorted_entries;
+use crate::sorting::order::EntryOrder;
 use ijson_number::Looks;
 use ijson_string::IString;
 use std::alloc::{AllocError, Global};
@@ -45,7 +45,7 @@ fn fill(slots: &mut Slots, sorted: &[Slot], modulus: Modulus)
     requires empty { IsTableOf [] slots.old }
     requires room { length sorted.now ≤ length slots.old }
     requires entries { (hashes : List ℕ) × AreEntries modulus.count hashes sorted.now }
-    requires sorted { IsSortedBy (home_before modulus.count) sorted.now }
+    requires sorted { (keys : List (List ℕ)) × IsSortedBy (entry_before modulus.count keys) sorted.now }
     ensures table { (hashes : List ℕ) → AreEntries modulus.count hashes sorted.now → IsTableOf hashes slots.new }
     ensures count { length slots.new ≡ length slots.old }
 {
@@ -81,9 +81,12 @@ pub fn fill_sorted<V, H: KeyHash>(
     ensures bounded { (k : ℕ) → length pairs.now ≤ 2 ^ k → looks.new ≤ looks.old + length pairs.now * k }
 {
     let modulus = Modulus::new(slots.len());
-    let entries = entries_of::<V, H>(alloc, pairs, modulus)?;
-    let order = HomeOrder { modulus };
-    let sorted = merge_sort(alloc, &order, entries, looks)?;
+    // Slots are filled by home slots alone, so no keys are compared.
+    let order = EntryOrder {
+        pairs: &pairs[..0],
+        modulus,
+    };
+    let sorted = sorted_entries::<V, H>(alloc, pairs, &order, looks)?;
     fill(slots, &sorted, modulus);
     Ok(())
 }

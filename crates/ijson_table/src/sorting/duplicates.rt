@@ -2,7 +2,7 @@
 
 ghost use Rattle.std.specs.Prelude.{◌≡◌, [], take};
 ghost use Rattle.ijson_table.specs.Store.{keys_of, put_each};
-ghost use Rattle.ijson_table.specs.private.KeyOrder.{AreEarlier};
+ghost use Rattle.ijson_table.specs.private.EntryOrder.{AreEarlier};
 
 use ijson_string::IString;
 

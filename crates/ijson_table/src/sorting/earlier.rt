@@ -1,8 +1,8 @@
-//! An earlier index of each duplicate key, by one pass over entries in the order of their keys.
+//! An earlier index of each duplicate key, by one pass over the sorted entries.
 
-ghost use Rattle.std.specs.Prelude.{◌≡◌, ◌+◌, ◌<◌, ◌≤◌, ◌^◌, length, IfOk, OnErr, IsTrue, ◌↔◌};
+ghost use Rattle.std.specs.Prelude.{◌≡◌, ℕ, List, ◌+◌, ◌<◌, ◌≤◌, ◌^◌, length, IfOk, OnErr, IsTrue, ◌↔◌};
 ghost use Rattle.ijson_table.specs.Store.{keys_of};
-ghost use Rattle.ijson_table.specs.private.KeyOrder.{entry_key, AreEarlier, AreInOrder};
+ghost use Rattle.ijson_table.specs.private.EntryOrder.{entry_key, AreEarlier, AreInOrder};
 
 use crate::slot::Slot;
 use crate::sorting::order::key_of;
@@ -12,7 +12,7 @@ use std::alloc::{AllocError, Global};
 
 /// Returns, for each index of the pairs, the previous index with the same key, or the index itself if there is none.
 ///
-/// `sorted` has the entries of all pairs in the order of `KeyOrder`: entries of one key are adjacent, by their indices.
+/// `sorted` has the entries of all pairs in the order of `EntryOrder`: entries of one key are adjacent, by their indices.
 /// Each entry counts as one inspection, in which two keys are compared if their hashes are equal. An empty list does not
 /// allocate.
 pub fn earlier_positions<V>(
@@ -21,7 +21,7 @@ pub fn earlier_positions<V>(
     pairs: &[(IString, V)],
     looks: &mut Looks,
 ) -> Result<Vec<usize>, AllocError>
-    requires entries { AreInOrder (keys_of pairs.now) sorted.now }
+    requires entries { (n : ℕ) × (hash : List ℕ → ℕ) × AreInOrder n hash (keys_of pairs.now) sorted.now }
     requires fits { looks.old + length pairs.now < 2 ^ 128 }
     ensures earlier { IfOk result (λ earlier. AreEarlier (keys_of pairs.now) earlier.items) }
     ensures grows { looks.old ≤ looks.new }

@@ -105,7 +105,8 @@ impl<V: Drop, H: KeyHash> Table<V, H> {
         ensures grows { looks.old ≤ looks.new }
         ensures bounded { (k : ℕ) → vec_capacity pairs ≤ 2 ^ k → looks.new ≤ looks.old + vec_capacity pairs * (1 + 2 * k) }
     {
-        let Ok(pairs) = put_sorted(alloc, pairs, looks) else {
+        let modulus = Modulus::new(slots.len());
+        let Ok(pairs) = put_sorted::<V, H>(alloc, pairs, modulus, looks) else {
             drop(slots);
             return Err(AllocError);
         };

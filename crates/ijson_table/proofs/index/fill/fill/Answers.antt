@@ -17,7 +17,8 @@ loop-index-init c = record {
 }
 
 are_places : (c : Start) → ArePlaces c.args.modulus.count c.args.sorted.now (place c.args.modulus.count c.args.sorted.now)
-are_places c = places c.args.modulus.count c.args.sorted.now (omega (arith, c.requires.room, c.requires.counted)) c.requires.sorted
+are_places c = places c.args.modulus.count c.args.sorted.now (omega (arith, c.requires.room, c.requires.counted))
+    c.requires.sorted.0 c.requires.sorted.1
 
 -- the next entry is written to its slot
 place_is : (c : Joined-spot-count) → c.if-spot-count.slot ≡ place c.args.modulus.count c.args.sorted.now c.loop-index.index

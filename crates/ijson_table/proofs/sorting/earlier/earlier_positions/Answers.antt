@@ -1,7 +1,7 @@
 use Rattle.std.proofs.Common.{◌≡◌, ◌≢◌, ◌<◌, ◌-◌, ℕ, length, get_or, Option, None, Some, arith, refl, sym, ap, ◌∙◌}
 use Rattle.std.specs.Prelude.{IsSome}
 use Rattle.ijson_table.specs.Store.{keys_of}
-use Rattle.ijson_table.specs.private.KeyOrder.{IsEarlier}
+use Rattle.ijson_table.specs.private.EntryOrder.{IsEarlier}
 use Rattle.ijson_table.specs.private.SlotHashes.{blank, position_in}
 use Rattle.ijson_table.proofs.firsts.KeyRuns.{all_told, each_stands, goes_on, is_position, other_key, same_key}
 use Rattle.ijson_table.proofs.sorting.earlier.earlier_positions.Given.{Over}
@@ -10,7 +10,7 @@ use Rattle.ijson_table.proofs.sorting.earlier.earlier_positions.Goals.{then-not-
 
 -- each entry has an index
 stands : (g : Over) (c : Start g) (k : ℕ) → k < length c.args.sorted.now → position_in (get_or c.args.sorted.now k blank) ≢ None
-stands g c = each_stands (keys_of c.args.pairs.now) c.args.sorted.now c.requires.entries
+stands g c = each_stands (keys_of c.args.pairs.now) c.args.sorted.now c.requires.entries.2
 
 -- so it can be unwrapped
 is_there : (o p : Option ℕ) → o ≡ p → p ≢ None → IsSome o
@@ -35,7 +35,7 @@ pub index_mut-requires : goal.index_mut-requires
 index_mut-requires g c =
     omega (
       arith,
-      is_position (keys_of c.args.pairs.now) c.args.sorted.now c.requires.entries
+      is_position (keys_of c.args.pairs.now) c.args.sorted.now c.requires.entries.2
           c.loop-entry.entry-index c.unwrap-in-loop-entry.result c.loop-entry-test.true (sym c.position-in-loop-entry.ensures ∙ c.unwrap-in-loop-entry.ensures),
       c.loop-entry.invariant.so_far.count,
       c.loop-entry.earlier.ok.0,
@@ -51,7 +51,7 @@ loop-entry-preserved g c =
     let last = c.loop-entry.last in
     let next = c.if-not-has_same_key.last in
     let so_far = c.loop-entry.invariant.so_far in
-    let s = c.requires.entries in
+    let s = c.requires.entries.2 in
     let is : IsEarlier keys p q = elim c.if-not-has_same_key.branch [
       | then-not-has_same_key w ↦
           other_key keys sorted s k p q last next c.loop-entry-test.true so_far.last_is
@@ -71,5 +71,5 @@ loop-entry-preserved g c =
 
 pub returns-clause-earlier : goal.returns-clause-earlier
 returns-clause-earlier g c =
-    all_told (keys_of c.args.pairs.now) c.args.sorted.now c.requires.entries
+    all_told (keys_of c.args.pairs.now) c.args.sorted.now c.requires.entries.2
     c.loop-entry.entry-index c.loop-entry.last c.loop-entry.earlier.items c.loop-entry-test.false c.loop-entry.invariant.so_far
