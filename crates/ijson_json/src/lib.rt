@@ -21,7 +21,7 @@ pub use line_column::{LineColumn, line_and_column};
 pub use located::LocatedError;
 pub use read::from_json;
 pub use reporting::report;
-pub use write::{push_key, push_quoted, push_separator, to_json};
+pub use write::{INITIAL_CAPACITY, push_key, push_quoted, push_separator, to_json};
 
 /// States that a text has at most one tree, and that a printed tree is read back.
 ///

@@ -14,8 +14,8 @@ use quote::{push_member_key, push_string};
 pub use quote::{push_key, push_quoted};
 use std::alloc::{AllocError, Global};
 
-/// The initial capacity of a text, in bytes, so that a short one takes one allocation.
-const FIRST_ROOM: usize = 128;
+/// The initial capacity of JSON text that is written, in bytes, so that a short one takes one allocation.
+pub const INITIAL_CAPACITY: usize = 128;
 
 /// Returns the JSON text of `value`, without white space.
 ///
@@ -36,7 +36,7 @@ const FIRST_ROOM: usize = 128;
 pub fn to_json(alloc: Global, value: &IValue) -> Result<String, AllocError>
     ensures { IfOk result (λ text. string_bytes text ≡ print value.now.tree) }
 {
-    let mut out = String::with_capacity(alloc, FIRST_ROOM)?;
+    let mut out = String::with_capacity(alloc, INITIAL_CAPACITY)?;
     push_value(&mut out, value)?;
     Ok(out)
 }

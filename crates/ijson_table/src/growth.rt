@@ -7,8 +7,8 @@ ghost use Rattle.ijson_table.specs.private.Room.{AsksFor};
 
 use crate::store::ReserveError;
 
-/// The maximum capacity.
-const CAPACITY_LIMIT: usize = 1 << 56;
+/// The maximum capacity of a store.
+pub const CAPACITY_LIMIT: usize = 1 << 56;
 
 /// Returns the capacity that `additional` more entries require, or `None` if they fit.
 ///

@@ -23,12 +23,22 @@ pub trait KeyHash {
 #[derive(Clone, Copy, Debug, Drop)]
 pub struct FixedHash;
 
+impl FixedHash {
+    /// The initial hash: the offset basis of FNV (Fowler, Noll, Vo) in 64 bits.
+    pub const BASIS: u64 = 14_695_981_039_346_656_037;
+
+    /// The multiplier for one word, modulo 2^64: the prime of FNV.
+    ///
+    /// FNV combines a byte by exclusive or; here, a word is added.
+    pub const PRIME: u64 = 1_099_511_628_211;
+}
+
 /// Folds four bytes per step.
 impl KeyHash for FixedHash {
     ghost hash_of = { λ text. fold_words text };
 
     fn hash(text: &str) -> u64 {
-        let mut hash = BASIS;
+        let mut hash = FixedHash::BASIS;
         let mut left = text.as_bytes();
         while let [a, b, c, d, rest @ ..] = left {
             hash = add_four(hash, [*a, *b, *c, *d]);
@@ -38,22 +48,14 @@ impl KeyHash for FixedHash {
     }
 }
 
-/// The initial hash: the offset basis of FNV (Fowler, Noll, Vo) in 64 bits.
-const BASIS: u64 = 14_695_981_039_346_656_037;
-
-/// The multiplier for one word, modulo 2^64: the prime of FNV.
-///
-/// FNV combines a byte by exclusive or; here, a word is added.
-const PRIME: u64 = 1_099_511_628_211;
-
 /// The multiplier for two words.
-const PRIME_POWER_2: u64 = PRIME.wrapping_mul(PRIME);
+const PRIME_POWER_2: u64 = FixedHash::PRIME.wrapping_mul(FixedHash::PRIME);
 
 /// The multiplier for three words.
-const PRIME_POWER_3: u64 = PRIME_POWER_2.wrapping_mul(PRIME);
+const PRIME_POWER_3: u64 = PRIME_POWER_2.wrapping_mul(FixedHash::PRIME);
 
 /// The multiplier for four words, folded in one step.
-const PRIME_POWER_4: u64 = PRIME_POWER_3.wrapping_mul(PRIME);
+const PRIME_POWER_4: u64 = PRIME_POWER_3.wrapping_mul(FixedHash::PRIME);
 
 /// Folds four more words in one step.
 ///
@@ -65,7 +67,7 @@ fn add_four(hash: u64, words: [u8; 4]) -> u64
     let sum = u64::from(a)
         .wrapping_mul(PRIME_POWER_3)
         .wrapping_add(u64::from(b).wrapping_mul(PRIME_POWER_2))
-        .wrapping_add(u64::from(c).wrapping_mul(PRIME))
+        .wrapping_add(u64::from(c).wrapping_mul(FixedHash::PRIME))
         .wrapping_add(u64::from(d));
     hash.wrapping_mul(PRIME_POWER_4).wrapping_add(sum)
 }
@@ -75,7 +77,9 @@ fn add_each(mut hash: u64, words: &[u8]) -> u64
     ensures { result ≡ fold fold_word hash words.now }
 {
     for word in words {
-        hash = hash.wrapping_mul(PRIME).wrapping_add(u64::from(*word));
+        hash = hash
+            .wrapping_mul(FixedHash::PRIME)
+            .wrapping_add(u64::from(*word));
     }
     hash
 }

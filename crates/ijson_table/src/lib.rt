@@ -15,6 +15,7 @@ mod vec;
 
 pub use commands::{Command, Reply, run};
 pub use fixed::FixedTable;
+pub use growth::CAPACITY_LIMIT;
 pub use hash::{FixedHash, KeyHash};
 pub use index::places::{Places, locate};
 pub use linear::LinearPairs;

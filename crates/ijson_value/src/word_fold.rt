@@ -11,15 +11,10 @@ ghost use Rattle.ijson_value.specs.private.Folded.{folded};
 use crate::value::{Destructured, IValue};
 use ijson_number::INumber;
 use ijson_string::IString;
+use ijson_table::FixedHash;
 use std::hash::{Hash, Hasher};
 
-/// The initial value of the fold, as in `FixedHash`.
-const BASIS: u64 = 14_695_981_039_346_656_037;
-
-/// The multiplier of the fold, modulo 2^64, as in `FixedHash`.
-const PRIME: u64 = 1_099_511_628_211;
-
-/// A fold of words. As a hasher, it takes each write of eight bytes as a word.
+/// A fold of words, with the constants of `FixedHash`. As a hasher, it takes each write of eight bytes as a word.
 #[derive(Drop)]
 struct WordFold(u64);
 
@@ -27,13 +22,13 @@ impl WordFold {
     fn new() -> WordFold
         ensures { result.0 ≡ basis }
     {
-        WordFold(BASIS)
+        WordFold(FixedHash::BASIS)
     }
 
     fn add_word(&mut self, word: u64)
         ensures { self.new.0 ≡ fold_word self.old.0 word }
     {
-        self.0 = self.0.wrapping_mul(PRIME).wrapping_add(word);
+        self.0 = self.0.wrapping_mul(FixedHash::PRIME).wrapping_add(word);
     }
 
     fn add_number(&mut self, number: &INumber)

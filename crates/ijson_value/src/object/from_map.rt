@@ -11,14 +11,11 @@ ghost use Rattle.ijson_value.specs.private.GivesPairs.{GivesDistinctPairs};
 use super::map::IObject;
 use crate::value::IValue;
 use ijson_string::IString;
-use ijson_table::ReserveError;
+use ijson_table::{CAPACITY_LIMIT, ReserveError};
 use indexmap::IndexMap;
 use std::alloc::Global;
 use std::collections::{BTreeMap, HashMap};
 use std::hash::BuildHasher;
-
-/// The maximum capacity of an object.
-const CAPACITY_LIMIT: usize = 1 << 56;
 
 impl IObject {
     /// Creates an object of the entries of a hash map, in the map's iteration order.
