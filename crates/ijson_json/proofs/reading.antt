@@ -2,7 +2,6 @@
 pub mod Escapes
 pub mod StringContent
 pub mod Numbers
-pub mod OnePass
 pub mod ElementLists
 pub mod Elements
 pub mod ElementFaults

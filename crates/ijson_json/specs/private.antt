@@ -2,7 +2,6 @@
 pub mod CompactErrorOfReadFault
 pub mod Delimiters
 pub mod Reading
-pub mod OnePass
 pub mod Explains
 pub mod ReadsKey
 pub mod ReadsScalar

@@ -40,7 +40,7 @@ pub use lib.Lanes.{zip2, Each1, chunk, dots, mask_l, top, number_l, digits_l}
 pub use lib.Seq.{get_or-append-add, take-append-add}
 pub use mir.Syntax.{w128, w32, w64, w8, w16}
 pub use mir.Val.{bits, of_z, to_z, bool_byte, zeroes}
-pub use Rattle.ijson_number.specs.CommonFront.{EndsToken, IsExponentTail, IsFewDigits, IsFewExponent, IsFewSigned, EndsDigits, IsCommonFront}
+pub use Rattle.ijson_number.specs.private.CommonFront.{EndsToken, IsExponentTail, IsFewDigits, IsFewExponent, IsFewSigned, EndsDigits, IsCommonFront}
 pub use Rattle.ijson_number.specs.Decimal.{Decimal, IsPlain}
 pub use Rattle.ijson_number.specs.Form.{FormOf, form_of, packed, signed_word, unsigned_word, digits, is_digits, digits_form, integer_form}
 pub use Rattle.ijson_number.specs.Form.{fits_packed, fits_i64, fits_u64, smallest_packed}
@@ -49,6 +49,7 @@ pub use Rattle.ijson_number.specs.Grammar.{Spells, Denotes, IsSpelled, Parts, va
 pub use Rattle.ijson_number.specs.Grammar.{IsWhole, IsSigned}
 pub use Rattle.ijson_number.specs.Integers.{HasValue, IsInteger, integer}
 pub use Rattle.ijson_number.specs.Num.{Num, IsNum, exponent_limit, is_in_range}
+pub use Rattle.ijson_number.specs.NumberFront.{BeginsNumber, HasNoPoint, IsNumberFront, IsPastLimit, IsUnread}
 pub use Rattle.ijson_number.specs.Order.{number_cmp, at_exponent, number_eq}
 pub use Rattle.ijson_number.specs.StoredNumber.{stored_number}
 pub use Rattle.ijson_number.specs.Stripped.{stripped_number, with_ten, exponent_above}
@@ -62,7 +63,7 @@ pub use Rattle.ijson_number.specs.private.CanonicalSpelling.{spelled_digits, spe
 pub use Rattle.ijson_number.specs.private.PrefixDigits.{IsCount, IsTaken}
 pub use Rattle.ijson_number.specs.private.Reading.{IsExponentSignTaken, BeginsWithNoDigit, IsWithin, exponent_of, BeginsWithNoZero, EndsWithNoZero}
 pub use Rattle.ijson_number.specs.private.Reading.{IsSignTaken, IsTail}
-pub use Rattle.ijson_number.specs.private.Significand.{significand_number, canonical_number, significand_of, IsFewFraction, IsFront, IsMantissa, HasNoPoint}
+pub use Rattle.ijson_number.specs.private.Significand.{significand_number, canonical_number, significand_of, IsFewFraction, IsFront, IsMantissa}
 pub use Rattle.ijson_number.specs.private.Significand.{IsPower, IsPowerSmall, HasFewerTens, IsSmall}
 pub use Rattle.ijson_number.specs.private.Stored.{stored_decimal, long_form, short_form, stored_form}
 pub use Rattle.ijson_number.specs.private.StoredNumber.{IsStored}

@@ -8,3 +8,4 @@ pub mod FrontNumbers
 pub mod ReadLanes
 pub mod CanonicalSpellings
 pub mod SpelledBytes
+pub mod NumberFronts

@@ -5,8 +5,8 @@ pub mod Strips
 pub mod StrippedDigits
 pub mod Grammar
 pub mod NumberBytes
-pub mod CommonFront
 pub mod Refused
+pub mod NumberFront
 pub mod Text
 pub mod AppendsBeginning
 pub mod Order

@@ -1,9 +1,12 @@
 pub mod Pushed
 pub mod RowText
+pub mod CommonFront
 pub mod Reading
+pub mod NumberStates
 pub mod PrefixDigits
 pub mod CanonicalSpelling
 pub mod Significand
+pub mod GeneralReader
 pub mod ShortDigits
 pub mod StoredNumber
 pub mod Stripped

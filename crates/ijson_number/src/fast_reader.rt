@@ -1,11 +1,11 @@
 //! Reads a leading number of at most 19 digits, with no exponent or one of at most four digits, in one pass.
-ghost use Rattle.std.specs.Prelude.{◌≡◌, ◌≢◌, ◌++◌, ◌+◌, ◌-◌, ◌*◌, ◌^◌, ◌<◌, ◌≤◌, ◌↔◌, List, ℕ, length, IfNone, IfSome, IsFalse, IsTrue};
-ghost use Rattle.ijson_number.specs.CommonFront.{EndsToken, IsCommonFront, IsExponentTail};
-ghost use Rattle.ijson_number.specs.Grammar.{AllDigits, IsWhole, Parts};
+ghost use Rattle.std.specs.Prelude.{◌≡◌, ◌≢◌, ◌++◌, ◌+◌, ◌-◌, ◌*◌, ◌^◌, ◌<◌, ◌≤◌, List, ℕ, length, IfNone, IfSome, IsFalse, IsTrue};
+ghost use Rattle.ijson_number.specs.private.CommonFront.{EndsToken, IsCommonFront, IsExponentTail};
+ghost use Rattle.ijson_number.specs.Grammar.{Parts};
 ghost use Rattle.ijson_number.specs.private.PrefixDigits.{IsTaken};
-ghost use Rattle.ijson_number.specs.private.Reading.{IsExponentSignTaken, IsSignTaken};
 ghost use Rattle.ijson_number.specs.private.Significand.{IsFewFraction, IsFractionTaken, IsFront, IsMantissa, IsPower};
 
+use crate::grammar::{is_whole, split_exponent_sign, split_sign};
 use crate::lanes::{LANES, digit_count, number_of, power_of_ten};
 use crate::repr::stored::WORD_DIGITS;
 use crate::significand::Significand;
@@ -16,35 +16,6 @@ const FEW: usize = 4;
 
 /// The maximum number of exponent digits that this pass reads.
 const EXPONENT_DIGITS: usize = 4;
-
-/// Splits off the sign of an exponent.
-pub fn split_exponent_sign(number: &[u8]) -> (bool, &[u8])
-    ensures { IsExponentSignTaken number.now result.0 result.1.now }
-{
-    match number {
-        [b'-', digits @ ..] => (true, digits),
-        [b'+', digits @ ..] => (false, digits),
-        _ => (false, number),
-    }
-}
-
-/// Splits off a leading minus.
-pub fn split_sign(text: &[u8]) -> (bool, &[u8])
-    ensures { IsSignTaken text.now result.0 result.1.now }
-{
-    match text {
-        [b'-', unsigned @ ..] => (true, unsigned),
-        _ => (false, text),
-    }
-}
-
-/// Whether the digits are a whole part: one digit, or more without a leading zero.
-pub fn is_whole(digits: &[u8]) -> bool
-    requires { AllDigits digits.now }
-    ensures { IsTrue result ↔ IsWhole digits.now }
-{
-    digits.len() == 1 || (!digits.is_empty() && digits[0] != b'0')
-}
 
 /// Appends up to `most` leading digits to `number`, one by one.
 ///
@@ -237,9 +208,9 @@ fn with_exponent(front: Front, rest: &[u8]) -> Option<Front>
     })
 }
 
-/// Reads a leading number that no digit or letter follows.
+/// Reads a common leading number: few digits, a short exponent, and no digit or letter after it.
 #[inline(always)]
-pub fn read_front(text: &[u8]) -> Option<Front>
+pub fn read_common(text: &[u8]) -> Option<Front>
     ensures found { IfSome result (IsFront text.now) }
     ensures common { IfSome result (λ f. (p : Parts) (rest : List ℕ)
         → IsCommonFront text.now p rest → f.length + length rest ≡ length text.now) }

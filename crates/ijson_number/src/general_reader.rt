@@ -1,44 +1,24 @@
-//! Reads a number of any length into its parts, and finds the first byte at which a text stops being a number.
-ghost use Rattle.std.specs.Prelude.{◌≡◌, ◌≢◌, ◌++◌, ◌↔◌, ◌<◌, ◌≤◌, ◌-◌, ◌+◌, ◌^◌, min, nat_abs, ℕ, List, ℤ, Bool};
-ghost use Rattle.std.specs.Prelude.{IsTrue, IfSome, IfNone, IsNone, replicate, length};
+//! Reads a leading number of any length into its parts, or finds the first byte that no number continues with.
+ghost use Rattle.std.specs.Prelude.{◌≡◌, ◌↔◌, ◌++◌, ◌∷◌, ◌<◌, ◌≤◌, ◌-◌, ◌+◌, ◌^◌, min, nat_abs, ℕ, List};
+ghost use Rattle.std.specs.Prelude.{IfOk, IfErr, IfSome, IfNone, IsTrue, replicate, length};
 ghost use Rattle.std.specs.Int.Digits.{number_from_digits_after};
 ghost use Rattle.ijson_number.specs.Decimal.{Decimal};
 ghost use Rattle.ijson_number.specs.Num.{IsNum};
 ghost use Rattle.ijson_number.specs.private.Reading.{IsWithin, exponent_of, BeginsWithNoDigit};
-ghost use Rattle.ijson_number.specs.private.Reading.{BeginsWithNoZero, EndsWithNoZero, IsTail};
+ghost use Rattle.ijson_number.specs.private.Reading.{BeginsWithNoZero, EndsWithNoZero};
+ghost use Rattle.ijson_number.specs.private.GeneralReader.{IsCut, IsExponentCut, IsExponentRead, IsFractionRead};
+ghost use Rattle.ijson_number.specs.private.GeneralReader.{IsSpellingRead, IsTailCut, IsTailRead, IsWholeRead};
 ghost use Rattle.ijson_number.specs.Strips.{signed};
-ghost use Rattle.ijson_number.specs.Grammar.{AllDigits, Denotes, IsDigits, IsExponent, IsSpelled, Parts, Spells, value};
+ghost use Rattle.ijson_number.specs.Grammar.{AllDigits, Denotes, IsSpelled, Spells, value};
 ghost use Rattle.ijson_number.specs.private.CanonicalSpelling.{IsCanonicalSpelling, parts_of, spelled_number};
 ghost use Rattle.ijson_number.specs.private.Significand.{canonical_number};
 ghost use Rattle.ijson_number.specs.private.Stripped.{digits_from_text};
 
-use crate::fast_reader::{is_whole, split_exponent_sign, split_sign};
+use crate::grammar::{split_digits, split_exponent_sign, split_sign};
 use crate::significand::Significand;
 
 /// Larger than any exponent within the limit requires, whatever the length of the text.
 const CAP: u128 = 1 << 80;
-
-/// Splits off the leading digits.
-pub fn split_digits<'a>(bytes: &'a [u8]) -> (&'a [u8], &'a [u8])
-    ensures text { bytes.now ≡ result.0.now ++ result.1.now }
-    ensures digits { AllDigits result.0.now }
-    ensures rest { BeginsWithNoDigit result.1.now }
-{
-    let mut count = 0;
-    while count < bytes.len() && bytes[count].is_ascii_digit() {
-        count += 1;
-    }
-    bytes.split_at(count)
-}
-
-/// Whether the text consists of one or more digits.
-#[tactic(auto, using(crate::proofs::parsing::DigitRuns::run_digits))]
-fn is_digits(bytes: &[u8]) -> bool
-    ensures { IsTrue result ↔ IsDigits bytes.now }
-{
-    let (digits, rest) = split_digits(bytes);
-    !digits.is_empty() && rest.is_empty()
-}
 
 /// Trims leading zeros.
 fn trim_leading_zeros(digits: &[u8]) -> &[u8]
@@ -66,25 +46,50 @@ fn trim_trailing_zeros(digits: &[u8]) -> &[u8]
     &digits[..end]
 }
 
-/// Splits an exponent into its sign and its digits; an empty text has neither.
-fn split_exponent(bytes: &[u8]) -> Option<(bool, &[u8])>
-    ensures found { IfSome result (λ r.
-        (written : Bool) × IsExponent bytes.now (signed r.0 (value r.1.now)) written) }
-    ensures digits { IfSome result (λ r. AllDigits r.1.now) }
-    ensures none { IfNone result ((z : ℤ) (written : Bool) → IsExponent bytes.now z written → ⊥) }
+/// Splits off the whole part: a zero, or all leading digits. `None` if the text begins with no digit.
+fn split_whole(bytes: &[u8]) -> Option<(&[u8], &[u8])>
+    ensures some { IfSome result (λ r. IsWholeRead bytes.now r.0.now r.1.now) }
+    ensures none { IfNone result (BeginsWithNoDigit bytes.now) }
 {
-    if bytes.is_empty() {
-        return Some((false, bytes));
+    if let [b'0', ..] = bytes {
+        return Some(bytes.split_at(1));
     }
-    let [b'e' | b'E', number @ ..] = bytes else {
+    let (digits, rest) = split_digits(bytes);
+    if digits.is_empty() {
         return None;
-    };
-    let (negative, digits) = split_exponent_sign(number);
-    if is_digits(digits) {
-        Some((negative, digits))
-    } else {
-        None
     }
+    Some((digits, rest))
+}
+
+/// Splits off a fraction, if there is one. `Err` with the text after the point if no digit follows it.
+fn split_fraction(bytes: &[u8]) -> Result<(&[u8], &[u8]), &[u8]>
+    ensures ok { IfOk result (λ r. IsFractionRead bytes.now r.0.now r.1.now) }
+    ensures err { IfErr result (λ rest. (bytes.now ≡ 46 ∷ rest.now) × BeginsWithNoDigit rest.now) }
+{
+    let [b'.', behind @ ..] = bytes else {
+        return Ok((&[], bytes));
+    };
+    let (digits, rest) = split_digits(behind);
+    if digits.is_empty() {
+        return Err(rest);
+    }
+    Ok((digits, rest))
+}
+
+/// Splits an exponent, if there is one, into its sign and its digits. `Err` with the text after the sign if no digit follows it.
+fn split_exponent(bytes: &[u8]) -> Result<(bool, &[u8], &[u8]), &[u8]>
+    ensures ok { IfOk result (λ r. IsExponentRead bytes.now r.0 r.1.now r.2.now) }
+    ensures err { IfErr result (λ rest. IsExponentCut bytes.now rest.now) }
+{
+    let [b'e' | b'E', signed @ ..] = bytes else {
+        return Ok((false, &[], bytes));
+    };
+    let (negative, number) = split_exponent_sign(signed);
+    let (digits, rest) = split_digits(number);
+    if digits.is_empty() {
+        return Err(rest);
+    }
+    Ok((negative, digits, rest))
 }
 
 /// The part after the whole digits: the fraction digits, and the sign and the digits of the exponent.
@@ -96,30 +101,21 @@ pub struct Tail<'a> {
     pub point: bool,
 }
 
-/// Reads the part after the whole digits.
+/// Reads the part after the whole digits, and returns the text after it, or the text that stopped it.
 #[inline(always)]
-fn read_tail(bytes: &[u8]) -> Option<Tail<'_>>
-    ensures found { IfSome result (λ t.
-        IsTail bytes.now t.fraction.now (signed t.negative (value t.exponent.now)) t.point) }
-    ensures digits { IfSome result (λ t. AllDigits t.exponent.now) }
-    ensures none { IfNone result
-        ((fraction : List ℕ) (z : ℤ) (point : Bool) → IsTail bytes.now fraction z point → ⊥) }
+fn read_tail(bytes: &[u8]) -> Result<(Tail<'_>, &[u8]), &[u8]>
+    ensures ok { IfOk result (λ r. IsTailRead bytes.now r.0 r.1.now) }
+    ensures err { IfErr result (λ rest. IsTailCut bytes.now rest.now) }
 {
-    let mut fraction: &[u8] = &[];
-    let mut rest = bytes;
-    if let [b'.', behind @ ..] = bytes {
-        (fraction, rest) = split_digits(behind);
-        if fraction.is_empty() {
-            return None;
-        }
-    }
-    let (negative, exponent) = split_exponent(rest)?;
-    Some(Tail {
+    let (fraction, behind) = split_fraction(bytes)?;
+    let (negative, exponent, rest) = split_exponent(behind)?;
+    let tail = Tail {
         fraction,
         negative,
         exponent,
-        point: !bytes.is_empty(),
-    })
+        point: rest.len() < bytes.len(),
+    };
+    Ok((tail, rest))
 }
 
 /// The parts of a number's text.
@@ -130,31 +126,35 @@ pub struct Spelling<'a> {
     pub tail: Tail<'a>,
 }
 
-/// Reads a number's text into its parts.
+/// Reads the leading number into its parts, and returns the text after it.
+///
+/// `Err` with the text that no number continues with, if the bytes before it are no number.
 #[inline(always)]
-pub fn read_spelling(text: &[u8]) -> Option<Spelling<'_>>
-    ensures found { IfSome result (λ s. IsSpelled text.now (parts_of s)) }
-    ensures digits { IfSome result (λ s. AllDigits s.tail.exponent.now) }
-    ensures none { IfNone result ((p : Parts) → IsSpelled text.now p → ⊥) }
+pub fn read_spelling(text: &[u8]) -> Result<(Spelling<'_>, &[u8]), &[u8]>
+    ensures ok { IfOk result (λ r. IsSpellingRead text.now r.0 r.1.now) }
+    ensures err { IfErr result (λ rest. IsCut text.now rest.now) }
 {
     let (negative, unsigned) = split_sign(text);
-    let (whole, rest) = split_digits(unsigned);
-    if !is_whole(whole) {
-        return None;
-    }
-    let tail = read_tail(rest)?;
-    Some(Spelling {
+    let Some((whole, behind)) = split_whole(unsigned) else {
+        return Err(unsigned);
+    };
+    let (tail, rest) = read_tail(behind)?;
+    let spelling = Spelling {
         negative,
         whole,
         tail,
-    })
+    };
+    Ok((spelling, rest))
 }
 
 /// Whether the whole text spells a number, however large its exponent.
 pub fn is_spelling(text: &[u8]) -> bool
-    ensures { IsTrue result ↔ ((p : Parts) × IsSpelled text.now p) }
+    ensures { IsTrue result ↔ ((n : Decimal) × Spells text.now n) }
 {
-    read_spelling(text).is_some()
+    match read_spelling(text) {
+        Ok((_, rest)) => rest.is_empty(),
+        Err(_) => false,
+    }
 }
 
 /// Strips leading zeros of digits in two pieces.
@@ -308,50 +308,4 @@ impl CanonicalSpelling<'_> {
             point: self.point,
         })
     }
-}
-
-/// Returns the rest of the text from the first byte with which no number could continue.
-fn after_number(text: &[u8]) -> &[u8]
-    ensures { length result.now ≤ length text.now }
-{
-    let (_, unsigned) = split_sign(text);
-    let (whole, mut rest) = split_digits(unsigned);
-    if whole.is_empty() {
-        return rest;
-    }
-    if let [b'0', _, ..] = whole {
-        return &unsigned[1..];
-    }
-    if let [b'.', behind @ ..] = rest {
-        let (fraction, after) = split_digits(behind);
-        if fraction.is_empty() {
-            return after;
-        }
-        rest = after;
-    }
-    let [b'e' | b'E', signed @ ..] = rest else {
-        return rest;
-    };
-    let (_, exponent) = split_exponent_sign(signed);
-    let (_, after) = split_digits(exponent);
-    after
-}
-
-/// Returns the offset of the first byte that no number could continue with.
-///
-/// It is the length if the text ends too early, and `None` if the whole text spells a number, however large its exponent. 1 for `01` and
-/// `-x`; 2 for `1.`, `1e` and `12a`; `None` for `1e2000000000`.
-///
-/// # Cost
-///
-/// Linear in the text. Does not allocate.
-pub fn first_fault(text: &str) -> Option<usize>
-    ensures none { IsNone result ↔ ((n : Decimal) × Spells text.now n) }
-    ensures at { IfSome result (λ at. at ≤ length text.now) }
-{
-    let bytes = text.as_bytes();
-    if is_spelling(bytes) {
-        return None;
-    }
-    Some(bytes.len() - after_number(bytes).len())
 }

@@ -1,6 +1,6 @@
 //! Exact decimals, as JSON writes numbers.
 //!
-//! Each module uses only those before it: `lanes`, `significand`, `repr::stored`, `repr`, `fast_reader`, `general_reader`, `encode`,
+//! Each module uses only those before it: `lanes`, `significand`, `repr::stored`, `repr`, `grammar`, `fast_reader`, `general_reader`, `encode`,
 //! `write_display`, `write_fast`, `comparison`, `number`, `integers`.
 #![tactic(auto)]
 
@@ -8,6 +8,7 @@ mod comparison;
 mod encode;
 mod fast_reader;
 mod general_reader;
+mod grammar;
 mod integers;
 mod lanes;
 mod number;
@@ -17,6 +18,5 @@ mod write_display;
 mod write_fast;
 
 pub use comparison::{DigitRow, Looks, compare};
-pub use general_reader::first_fault;
-pub use number::{Form, ParseNumberError};
+pub use number::{Form, ParseNumberError, ReadNumberError};
 pub use repr::INumber;

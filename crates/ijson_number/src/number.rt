@@ -1,5 +1,5 @@
 //! Numbers: parsed, copied, hashed, compared, and as callers see their representation.
-ghost use Rattle.std.specs.Prelude.{◌≡◌, IfOk, IfErr, ◌↔◌, false, Some, refl};
+ghost use Rattle.std.specs.Prelude.{◌≡◌, ◌↔◌, IfOk, IfErr, false, Some, refl};
 ghost use Rattle.std.specs.Cmp.{partial_equiv_from_equiv, on_equiv, on_total, po};
 ghost use Rattle.std.specs.List.{flat_map};
 ghost use Rattle.ijson_number.specs.Alike.{IsAlike};
@@ -14,8 +14,8 @@ ghost use Rattle.std.specs.Hash as fed;
 
 use crate::comparison::{Looks, compare};
 use crate::encode::{encode, encode_spelling};
-use crate::fast_reader::read_front;
-use crate::general_reader::read_spelling;
+use crate::fast_reader::read_common;
+use crate::general_reader::{is_spelling, read_spelling};
 use crate::repr::INumber;
 use crate::repr::stored::{LongNumber, MAX_DIGITS, Stored};
 use std::alloc::{AllocError, Global};
@@ -45,12 +45,104 @@ impl From<AllocError> for ParseNumberError {
     }
 }
 
+/// Why no number was read at the start of a text.
+#[derive(Clone, Copy, PartialEq, Eq, Debug, Drop, Error)]
+pub enum ReadNumberError {
+    /// The text begins with no number, or with one that breaks off.
+    ///
+    /// `at` is the offset of the first byte that no number continues with, or the length of a text that ends too early.
+    #[error("not a JSON number at byte {at}")]
+    Syntax { at: usize },
+    /// The canonical exponent of the leading number is out of range.
+    #[error("exponent out of range")]
+    OutOfRange,
+    /// The text begins with a number, but the allocation for its digits failed.
+    #[error("out of memory")]
+    Memory,
+}
+
+/// Returns `Memory`.
+impl From<AllocError> for ReadNumberError {
+    ghost use Rattle.ijson_number.specs.declared.number.ReadNumberError.TheVariants.{Memory};
+
+    ghost from_gives = { λ _ error. error ≡ Memory };
+
+    fn from(_refused: AllocError) -> ReadNumberError {
+        ReadNumberError::Memory
+    }
+}
+
 impl INumber {
-    ghost use Rattle.std.specs.Prelude.{◌+◌, ◌≤◌, List, ℕ, drop, length, take, IfNone, IfSome, OnErr};
-    ghost use Rattle.ijson_number.specs.Grammar.{Parts};
-    ghost use Rattle.ijson_number.specs.CommonFront.{EndsDigits, EndsToken, IsCommonFront};
+    ghost use Rattle.std.specs.Prelude.{List, ℕ, drop, take};
+    ghost use Rattle.ijson_number.specs.NumberFront.{HasNoPoint, IsNumberFront, IsUnread};
     ghost use Rattle.ijson_number.specs.Refused.{IsRefused};
-    ghost use Rattle.ijson_number.specs.declared.number.ParseNumberError.TheVariants.{Memory};
+
+    /// Reads the leading number by its parts. Not inlined, since few numbers need it.
+    #[inline(never)]
+    fn read_any(alloc: Global, text: &[u8]) -> Result<(INumber, usize), ReadNumberError>
+        ensures front { IfOk result (λ f. IsNumberFront text.now f.1) }
+        ensures spelled { IfOk result (λ f. Spells (take f.1 text.now) f.0.decimal) }
+        ensures point { IfOk result (λ f. HasNoPoint f.0.decimal.point (drop f.1 text.now)) }
+        ensures err { IfErr result (λ e. IsUnread text.now e) }
+    {
+        let (spelling, rest) = match read_spelling(text) {
+            Ok(read) => read,
+            Err(rest) => {
+                return Err(ReadNumberError::Syntax {
+                    at: text.len() - rest.len(),
+                });
+            }
+        };
+        let Some(canonical) = spelling.canonical() else {
+            return Err(ReadNumberError::OutOfRange);
+        };
+        let stored = encode_spelling(alloc, &canonical)?;
+        Ok((INumber { stored }, text.len() - rest.len()))
+    }
+
+    /// Calls `read_any`. Inlined, so that the return slot of the call is zeroed only for these numbers.
+    #[inline(always)]
+    fn read_other(alloc: Global, text: &[u8]) -> Result<(INumber, usize), ReadNumberError>
+        ensures front { IfOk result (λ f. IsNumberFront text.now f.1) }
+        ensures spelled { IfOk result (λ f. Spells (take f.1 text.now) f.0.decimal) }
+        ensures point { IfOk result (λ f. HasNoPoint f.0.decimal.point (drop f.1 text.now)) }
+        ensures err { IfErr result (λ e. IsUnread text.now e) }
+    {
+        let (number, length) = INumber::read_any(alloc, text)?;
+        Ok((number, length))
+    }
+
+    /// Reads the leading number; returns it and its length in bytes.
+    ///
+    /// It takes all bytes that a number could begin with: `1.5.5` is 1.5 and `01` is 0, but `1.x` is no number.
+    ///
+    /// # Errors
+    ///
+    /// `Syntax` if these bytes are no number, with how many they are: 2 for `1.x`, 1 for `-`, 0 for an empty text. `OutOfRange` if the
+    /// canonical exponent is out of range. `Memory` if an allocation fails.
+    ///
+    /// # Cost
+    ///
+    /// Linear in the number, whatever the exponent. It allocates only if the form is a list of digits.
+    #[inline(always)]
+    pub fn read_front(alloc: Global, text: &str) -> Result<(INumber, usize), ReadNumberError>
+        // Some number begins with the bytes read, and none with one byte more.
+        ensures front { IfOk result (λ f. IsNumberFront text.now f.1) }
+        // They spell the number.
+        ensures spelled { IfOk result (λ f. Spells (take f.1 text.now) f.0.decimal) }
+        // No point follows a number that was written without point and exponent.
+        ensures point { IfOk result (λ f. HasNoPoint f.0.decimal.point (drop f.1 text.now)) }
+        // Why no number was read.
+        ensures err { IfErr result (λ e. IsUnread text.now e) }
+    {
+        let bytes = text.as_bytes();
+        // before the general reader, so that most numbers take one pass
+        let Some(front) = read_common(bytes) else {
+            return INumber::read_other(alloc, bytes);
+        };
+        let stored = encode(alloc, front.significand)?;
+        Ok((INumber { stored }, front.length))
+    }
 
     /// Parses the whole text as a number; white space around it is rejected.
     ///
@@ -63,57 +155,30 @@ impl INumber {
     ///
     /// # Cost
     ///
-    /// Linear in the length of the text, whatever the exponent. It allocates only if the form is a list of digits, and only after the
-    /// text is known to spell a number.
+    /// Linear in the length of the text, whatever the exponent. It allocates only if the form of the leading number is a list of digits.
     pub fn from_str(alloc: Global, text: &str) -> Result<INumber, ParseNumberError>
         ensures ok { IfOk result (λ n. Spells text.now n.decimal) }
         ensures err { IfErr result (λ e. IsRefused text.now e) }
     {
-        let bytes = text.as_bytes();
-        // before the general reader, so that most numbers take one pass
-        if let Some(front) = read_front(bytes) {
-            if front.length == bytes.len() {
-                let stored = encode(alloc, front.significand)?;
-                return Ok(INumber { stored });
+        match INumber::read_front(alloc, text) {
+            Ok((number, length)) => {
+                if length == text.len() {
+                    return Ok(number);
+                }
+                drop(number);
+                Err(ParseNumberError::Invalid)
+            }
+            Err(error) => {
+                if !is_spelling(text.as_bytes()) {
+                    return Err(ParseNumberError::Invalid);
+                }
+                match error {
+                    ReadNumberError::Memory => Err(ParseNumberError::Memory),
+                    ReadNumberError::OutOfRange => Err(ParseNumberError::Invalid),
+                    ReadNumberError::Syntax { at: _ } => Err(ParseNumberError::Invalid),
+                }
             }
         }
-        let Some(spelling) = read_spelling(bytes) else {
-            return Err(ParseNumberError::Invalid);
-        };
-        let Some(canonical) = spelling.canonical() else {
-            return Err(ParseNumberError::Invalid);
-        };
-        let spelled = encode_spelling(alloc, &canonical)?;
-        Ok(INumber { stored: spelled })
-    }
-
-    /// Parses a leading number in one pass; returns it and its length in bytes.
-    ///
-    /// The number has at most 19 digits, not counting a single zero before the point, and no exponent or one of at most four digits. No
-    /// digit or letter follows it, nor a point if it has neither point nor exponent. For `1.5.5` it is `1.5`; `1.` and `1.x` have none. For
-    /// any other text this may return `None`; call `from_str` then.
-    ///
-    /// # Errors
-    ///
-    /// Returns `AllocError` if an allocation fails. It allocates only if the form is a list of digits.
-    #[inline(always)]
-    pub fn at_front(alloc: Global, text: &str) -> Result<Option<(INumber, usize)>, AllocError>
-        ensures found { IfOk result (λ found. IfSome found (λ f.
-            (f.1 ≤ length text.now) × Spells (take f.1 text.now) f.0.decimal)) }
-        ensures ends { IfOk result (λ found. IfSome found (λ f. EndsToken (drop f.1 text.now))) }
-        ensures point { IfOk result (λ found. IfSome found (λ f. EndsDigits f.0.decimal.point (drop f.1 text.now))) }
-        ensures common { IfOk result (λ found. IfSome found (λ f. (p : Parts) (rest : List ℕ)
-            → IsCommonFront text.now p rest → f.1 + length rest ≡ length text.now)) }
-        ensures none { IfOk result (λ found. IfNone found ((p : Parts) (rest : List ℕ)
-            → IsCommonFront text.now p rest → ⊥)) }
-        ensures refused { OnErr result ((count : ℕ)
-            × IsRefused (take count text.now) Memory × EndsToken (drop count text.now)) }
-    {
-        let Some(front) = read_front(text.as_bytes()) else {
-            return Ok(None);
-        };
-        let stored = encode(alloc, front.significand)?;
-        Ok(Some((INumber { stored }, front.length)))
     }
 
     /// Whether the number was written with a fraction point or an exponent.

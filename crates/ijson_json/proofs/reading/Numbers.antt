@@ -1,96 +1,87 @@
 -- The leading number of a text.
-use Rattle.std.proofs.Common.{◌≡◌, ℕ, ◌<◌, ◌≤◌, Bool, true, false, List, ◌++◌, length, take, drop, sym, ap}
-use Rattle.std.proofs.Common.{subst, ◌∙◌, append_assoc, arith}
-use Rattle.std.specs.Prelude.{slice_range, IsTrue, ◌↔◌}
+use Rattle.std.proofs.Common.{◌≡◌, ℕ, ◌+◌, ◌<◌, ◌≤◌, Bool, true, false, List, [], ◌∷◌, ◌++◌, get_or, length, take, drop, sym, ap}
+use Rattle.std.proofs.Common.{subst, ◌∙◌, arith, inl, inr}
+use Rattle.std.specs.Prelude.{IsTrue}
 use Rattle.std.specs.Str.{IsUtf8, IsCharBoundary}
-use Rattle.std.proofs.lemmas.Bool.{false_from_ne_true}
+use Rattle.std.proofs.Math.Seq.{drop-append_seam, get_or-append_seam, take-append_seam}
+use Rattle.std.proofs.lemmas.Bool.{cases_lt}
 use Rattle.std.proofs.lemmas.Bool.Decides.{nat_tests}
-use Rattle.std.proofs.lemmas.List.{get_or-take, length-take-le, take-append-drop}
+use Rattle.std.proofs.lemmas.List.{get_or-take, get_or_append_left, length-append, length-take-le, take-append-drop}
 use Rattle.std.proofs.lemmas.List.Elements.{All-from_recursion}
-use Rattle.std.specs.List.{prefix_len}
-use Rattle.std.proofs.lemmas.List.Sums.{prefix_len_passes, prefix_len-le-length}
 use Rattle.ijson_number.specs.Decimal.{Decimal}
-use Rattle.ijson_number.specs.Num.{IsNum, is_in_range}
+use Rattle.ijson_number.specs.Num.{is_in_range}
 use Rattle.ijson_number.specs.Grammar.{Spells}
 use Rattle.ijson_number.specs.NumberBytes.{is_number_byte}
+use Rattle.ijson_number.specs.NumberFront.{IsNumberFront, IsPastLimit}
 use Rattle.ijson_number.proofs.parsing.Denotes.{spells_one}
+use Rattle.ijson_number.proofs.parsing.NumberFronts.{front_within}
 use Rattle.ijson_number.proofs.parsing.SpelledBytes.{spells_bytes}
-use Rattle.ijson_json.specs.private.Reading.{Stops, NumberAt, NoNumber, IsPastLimit, PastLimitAt}
+use Rattle.ijson_json.specs.private.Reading.{Stops, NumberAt, NoNumber, PastLimitAt}
 use Rattle.ijson_json.proofs.scanning.CharBoundaries.{behind_ascii}
-use Rattle.ijson_json.proofs.scanning.Prefixes.{Run, run_same, not_both}
 
 -- a byte of a number is ASCII
 number_ascii : (b : ℕ) → is_number_byte b ≡ true → b < 128
 number_ascii b h = grind (arith, nat_tests)
 
--- a text may be split after all leading bytes of a number
-pub number_boundary : (text : List ℕ) → IsUtf8 text → IsCharBoundary text (prefix_len is_number_byte text)
-number_boundary text u = behind_ascii text u _ (prefix_len-le-length is_number_byte text)
-    (λ k h. number_ascii _ (prefix_len_passes is_number_byte text k 0 h))
+-- each byte of a text that spells a number
+number_byte : (text : List ℕ) (n : Decimal) → Spells text n → (k : ℕ) → k < length text → is_number_byte (get_or text k 0) ≡ true
+number_byte text n s k l = All-from_recursion (λ b. IsTrue (is_number_byte b)) text (spells_bytes text n s) k 0 l
 
--- and after a leading number
+-- a text may be split after a leading number
 pub spelled_boundary : (text : List ℕ) (count : ℕ) (n : Decimal) → IsUtf8 text → count ≤ length text → Spells (take count text) n
     → IsCharBoundary text count
 spelled_boundary text count n u within s = behind_ascii text u count within
-    (λ k h. number_ascii _ (rw (get_or-take count text k 0 h) at (All-from_recursion (λ b. IsTrue (is_number_byte b)) (take count text)
-    (spells_bytes (take count text) n s) k 0 (let e = length-take-le count text within in omega arith))))
+    (λ k h. number_ascii _ (rw (get_or-take count text k 0 h) at (number_byte (take count text) n s k
+    (let e = length-take-le count text within in omega arith))))
 
--- a leading number is the whole run of number bytes
-number_is_run : (text run rest : List ℕ) (n : Decimal) (other : List ℕ) → text ≡ run ++ rest → Run is_number_byte run → Stops rest
-    → NumberAt text n other → Spells run n
-number_is_run text run rest n other e r s a = rw ((run_same is_number_byte run a.found.front rest other r
-    (spells_bytes a.found.front n a.found.holds) s a.stops (sym e ∙ a.found.is)).0) (a.found.holds)
+-- no number goes on after bytes that stop one
+not_inside : (text : List ℕ) (count : ℕ) → IsNumberFront text count → (front rest : List ℕ) → text ≡ front ++ rest → Stops rest
+    → length front < count → ⊥
+not_inside text count f front [] is stops less = let within = f.within in omega (arith, less, within, ap length is ∙ length-append front [])
+not_inside text count f front (b ∷ rest) is stops less =
+    let m = f.begins in
+    let k : ℕ = length front in
+    let long : length (take count text) ≡ count = length-take-le count text f.within in
+    let byte : is_number_byte (get_or (take count text ++ m.0) k 0) ≡ true =
+    number_byte (take count text ++ m.0) m.1 m.2 k (omega (arith, less, long, length-append (take count text) m.0)) in
+    let same : get_or (take count text ++ m.0) k 0 ≡ b =
+    get_or_append_left (take count text) m.0 0 k (omega (arith, long, less)) ∙ get_or-take count text k 0 less
+    ∙ ap (λ (t : List ℕ). get_or t k 0) is ∙ get_or-append_seam front b rest 0 in
+    let clash : true ≡ false = sym (rw same at byte) ∙ stops in
+    cc
 
--- if the run spells no number, the text begins with none
-pub no_number : (text run rest : List ℕ) → text ≡ run ++ rest → Run is_number_byte run → Stops rest → ((n : Decimal) × Spells run n → ⊥)
-    → NoNumber text
-no_number text run rest e r s h n other a = h (n, number_is_run text run rest n other e r s a)
+-- a leading number that stops is as long as some number begins with the text
+number_count : (text : List ℕ) (count : ℕ) → IsNumberFront text count → (n : Decimal) (rest : List ℕ) (a : NumberAt text n rest)
+    → count ≡ length a.found.front
+number_count text count f n rest a =
+    let most = front_within text count f a.found.front rest n a.found.is a.found.holds in
+    elim (cases_lt (length a.found.front) count) [
+      | inl less ↦ absurd (not_inside text count f a.found.front rest a.found.is a.stops less)
+      | inr least ↦ omega (arith, most, least)
+    ]
 
--- a number that is not a Num is beyond the limit
-pub past_limit : (text : List ℕ) → (n : Decimal) × Spells text n → ((n : Decimal) → Spells text n → IsNum n → ⊥) → IsPastLimit text
-past_limit text (n, v) h = (n, v, false_from_ne_true _ (λ e. h n v (record { plain = v.2.0.plain; in_range = e })))
+number_taken : (text : List ℕ) (count : ℕ) → IsNumberFront text count → (n : Decimal) (rest : List ℕ) → NumberAt text n rest
+    → Spells (take count text) n × (drop count text ≡ rest)
+number_taken text count f n rest a =
+    let front = a.found.front in
+    let e = number_count text count f n rest a in
+    let taken : take count text ≡ front = ap (λ k. take k text) e ∙ ap (take (length front)) a.found.is ∙ take-append_seam front rest in
+    let left : drop count text ≡ rest = ap (λ k. drop k text) e ∙ ap (drop (length front)) a.found.is ∙ drop-append_seam front rest in
+    (subst (λ b. Spells b n) (sym taken) a.found.holds, left)
 
--- the leading number is beyond the limit if the run spells one that is not a Num
-pub run_past_limit : (text run rest : List ℕ) → text ≡ run ++ rest → Run is_number_byte run → Stops rest → (n : Decimal) × Spells run n
-    → ((n : Decimal) → Spells run n → IsNum n → ⊥)
-    → PastLimitAt text
-run_past_limit text run rest e r s some h =
-    let p = past_limit run some h in
-    record {
-      each = λ n other a. subst (λ (m : Decimal). is_in_range m ≡ false) (spells_one run p.0 n p.1 (number_is_run text run rest n other e r s a))
-          p.2;
-      rest = rest;
-      beginning = record { front = run; holds = p; is = e };
-    }
+-- if the front spells no number, the text begins with none
+pub no_number : (text : List ℕ) (count : ℕ) → IsNumberFront text count → ((n : Decimal) → Spells (take count text) n → ⊥) → NoNumber text
+no_number text count f none n rest a = none n (number_taken text count f n rest a).0
 
--- the run begins with a number beyond the limit, but is not one itself
-pub front_past_limit : (text run rest : List ℕ) (at : ℕ) → text ≡ run ++ rest → Run is_number_byte run → Stops rest
-    → ((n : Decimal) × Spells run n → ⊥) → IsPastLimit (take at run) → PastLimitAt text
-front_past_limit text run rest at e r s none p =
-    record {
-      each = λ n other a. absurd (no_number text run rest e r s none n other a);
-      rest = drop at run ++ rest;
-      beginning = record {
-        front = take at run;
-        holds = p;
-        is = e ∙ ap (λ (l : List ℕ). l ++ rest) (sym (take-append-drop at run))
-            ∙ append_assoc (take at run) (drop at run) rest;
-      };
-    }
+-- nor if a byte of a number follows it
+pub goes_on : (text : List ℕ) (count : ℕ) → IsNumberFront text count → (Stops (drop count text) → ⊥) → NoNumber text
+goes_on text count f more n rest a = more (subst Stops (sym (number_taken text count f n rest a).1) a.stops)
 
--- the first bytes, as a range
-pub front_range : (run : List ℕ) (at : ℕ) → slice_range run 0 at ≡ take at run
-front_range run at = grind arith
-
--- the result if the text spells a Num
-pub answer_within : (text : List ℕ) (b : Bool) (n : Decimal) → b ≡ false → Spells text n → IsNum n → IsTrue b ↔ IsPastLimit text
-answer_within text b n e v h = (
-  λ t. absurd (not_both b t e),
-  λ p. absurd (not_both (is_in_range p.0)
-      (subst (λ (k : Decimal). is_in_range k ≡ true) (spells_one text n p.0 v p.1) h.in_range) p.2),
-)
-
--- the result if the text spells no Num
-pub answer_refused : (text : List ℕ) (b : Bool) → (b ≡ true → (n : Decimal) × Spells text n) → ((n : Decimal) × Spells text n → b ≡ true)
-    → ((n : Decimal) → Spells text n → IsNum n → ⊥) → IsTrue b ↔ IsPastLimit text
-answer_refused text b f g h = (λ t. past_limit text (f t) h, λ p. g (p.0, p.1))
+-- if the front is a number beyond the limit, each leading number is
+pub past_limit : (text : List ℕ) (count : ℕ) → IsNumberFront text count → IsPastLimit (take count text) → PastLimitAt text
+past_limit text count f p = record {
+  each = λ n rest a. subst (λ (m : Decimal). is_in_range m ≡ false)
+      (spells_one (take count text) p.0 n p.1 (number_taken text count f n rest a).0) p.2;
+  rest = drop count text;
+  beginning = record { front = take count text; holds = p; is = sym (take-append-drop count text) };
+}

@@ -4,6 +4,7 @@ use Rattle.ijson_number.specs.Decimal.{Decimal}
 use Rattle.ijson_number.specs.Num.{is_in_range}
 use Rattle.ijson_number.specs.Grammar.{Spells}
 use Rattle.ijson_number.specs.NumberBytes.{is_number_byte}
+use Rattle.ijson_number.specs.NumberFront.{IsPastLimit}
 use Rattle.ijson_value.specs.Tree.{Tree, null, boolean, number, string, array, object, depth}
 use Rattle.ijson_json.specs.Ranged.{is_ranged}
 use Rattle.ijson_json.specs.Settled.{settled}
@@ -140,10 +141,6 @@ pub record NumberAt (text : List ℕ) (n : Decimal) (rest : List ℕ) : Type 0 w
 
 abbrev pub NumberRead : List ℕ → Decimal → List ℕ → Type 0
 NumberRead text n rest = NumberAt text n rest × (is_in_range n ≡ true)
-
--- the text spells a number beyond the limit
-abbrev pub IsPastLimit : List ℕ → Type 0
-IsPastLimit text = (n : Decimal) × Spells text n × (is_in_range n ≡ false)
 
 -- each leading number is beyond the limit, and some beginning of the text is one
 pub record PastLimitAt (text : List ℕ) : Type 0 where

@@ -2,10 +2,10 @@
 use Rattle.ijson_number.proofs.Common.{◌≡◌, ◌≢◌, ◌⊎◌, ℕ, ◌-◌, ◌<◌, ◌≤◌, Bool, List, [], ◌∷◌, ◌++◌, length, take, drop, refl, sym, ap, ◌∙◌, inl}
 use Rattle.ijson_number.proofs.Common.{inr, arith, nat_tests, take-append-drop, AllDigits, IsDigits, IsFraction, Parts, value, EndsDigits, EndsToken}
 use Rattle.ijson_number.proofs.Common.{IsCommonFront, cases_lt, IsFewFraction, BeginsWithNoDigit, IsSignTaken, get_or, append_assoc, length-take-le}
-use Rattle.ijson_number.proofs.Common.{IsExponentTail, IsFewDigits, IsFewExponent, IsFewSigned, IsExponentSignTaken, IsTaken, false, true, ℤ, nat_eq}
-use Rattle.ijson_number.proofs.Common.{not, take_rest, IsExponent, IsTail, IsSigned, signed, HasNoPoint}
-use Rattle.ijson_number.proofs.parsing.DigitRuns.{sign_one, whole_all, sign_taken, one_run, IsDigits_all, IsDigits_nonempty, IsDigits_from}
-use Rattle.ijson_number.proofs.parsing.DigitRuns.{exponent_begins, no_exponent, digits_signed}
+use Rattle.ijson_number.proofs.Common.{IsExponentTail, IsFewDigits, IsFewExponent, IsFewSigned, IsExponentSignTaken, IsTaken}
+use Rattle.ijson_number.proofs.Common.{take_rest, IsSigned, signed, HasNoPoint}
+use Rattle.ijson_number.proofs.parsing.DigitRuns.{sign_one, whole_all, sign_taken, one_run, IsDigits_all, IsDigits_nonempty}
+use Rattle.ijson_number.proofs.parsing.DigitRuns.{digits_signed}
 use Rattle.std.proofs.lemmas.List.Prefix.{end_rest}
 
 -- a text that ends a token begins with no digit
@@ -171,63 +171,11 @@ behind_taken (b ∷ text) digits negative count some sign =
     ∙ sym (append_assoc s.0 (take count digits) (drop count digits)) in
     end_rest (b ∷ text) (drop count digits) (b ∷ (s.0 ++ take count digits)) (ap (λ t. b ∷ t) all)
 
-begun : (bytes after : List ℕ) (b : ℕ) → 0 < length bytes → get_or bytes 0 0 ≡ b → drop 1 bytes ≡ after → bytes ≡ b ∷ after
+pub begun : (bytes after : List ℕ) (b : ℕ) → 0 < length bytes → get_or bytes 0 0 ≡ b → drop 1 bytes ≡ after → bytes ≡ b ∷ after
 begun [] after b h e d = absurd (omega arith)
 begun (x ∷ xs) after b h e d = cc
 
-no_tail_at : (ft et a rest f : List ℕ) (z : ℤ) (p w : Bool) → AllDigits a → BeginsWithNoDigit rest
-    → ((z : ℤ) (w : Bool) → IsExponent rest z w → ⊥) → IsFraction ft f p → IsExponent et z w → 46 ∷ (a ++ rest) ≡ ft ++ et → ⊥
-no_tail_at [] et a rest f z p w d n none g h e = no_exponent et 46 (a ++ rest) z w h refl (sym e)
-no_tail_at (b ∷ ft) et a rest f z p w d n none g h e =
-    let r = one_run a ft rest et d (IsDigits_all ft g.1) n (exponent_begins et z w h) (cc) in
-    none z w (rw r.1 h)
-
 -- a text that is read from its first byte on, which is a point
-module _ (bytes a rest : List ℕ) (h : 0 < length bytes) (e : get_or bytes 0 0 ≡ 46)
-    (s : take (length bytes - 1) (drop 1 bytes) ≡ a ++ rest) where
-  pub point_first : bytes ≡ 46 ∷ (a ++ rest)
-  point_first = begun bytes (a ++ rest) 46 h e (sym (take_rest bytes 1) ∙ s)
-
-  pub tail_at_point : (z : ℤ) (w : Bool) → 0 < length a → AllDigits a → IsExponent rest z w → IsTail bytes a z true
-  tail_at_point z w l d x = record {
-    fraction_text = 46 ∷ a;
-    exponent_text = rest;
-    has_point = true;
-    has_exponent = w;
-    text_is = point_first;
-    fraction_is = (refl, IsDigits_from a l d, refl, refl);
-    exponent_is = x;
-    point_is = refl;
-  }
-
-  pub no_tail_at_point : AllDigits a → BeginsWithNoDigit rest → ((z : ℤ) (w : Bool) → IsExponent rest z w → ⊥)
-      → (f : List ℕ) (z : ℤ) (p : Bool) → IsTail bytes f z p → ⊥
-  no_tail_at_point d n none f z p t =
-      no_tail_at t.fraction_text t.exponent_text a rest f z t.has_point t.has_exponent d n none t.fraction_is t.exponent_is
-      (sym point_first ∙ t.text_is)
-
--- a tail without a point
-pub tail_without_point : (bytes : List ℕ) (z : ℤ) (w empty : Bool) → empty ≡ nat_eq (length bytes) 0 → IsExponent bytes z w
-    → IsTail bytes [] z (not empty)
-tail_without_point bytes z w empty e x = record {
-  fraction_text = [];
-  exponent_text = bytes;
-  has_point = false;
-  has_exponent = w;
-  text_is = refl;
-  fraction_is = (refl, refl);
-  exponent_is = x;
-  point_is = shown bytes e x;
-}
-  where
-    shown : (bytes : List ℕ) → empty ≡ nat_eq (length bytes) 0 → IsExponent bytes z w → not empty ≡ w
-    shown [] e x = rw (e, x.1) refl
-    shown (b ∷ bs) e x = let some : not empty ≡ true = grind (arith, nat_tests) in some ∙ sym x.2
-
-pub no_tail_without_point : (bytes : List ℕ) → (0 < length bytes → get_or bytes 0 0 ≡ 46 → ⊥)
-    → ((z : ℤ) (w : Bool) → IsExponent bytes z w → ⊥) → (f : List ℕ) (z : ℤ) (p : Bool) → IsTail bytes f z p → ⊥
-no_tail_without_point bytes other none f z p t = by_front t.fraction_text t.exponent_text t.text_is t.fraction_is t.exponent_is
-  where
-    by_front : (ft et : List ℕ) → bytes ≡ ft ++ et → IsFraction ft f t.has_point → IsExponent et z t.has_exponent → ⊥
-    by_front [] et e g h = none z t.has_exponent (rw e h)
-    by_front (b ∷ ft) et e g h = other (rw e (omega arith)) (rw e g.0)
+pub point_first : (bytes a rest : List ℕ) → 0 < length bytes → get_or bytes 0 0 ≡ 46 → take (length bytes - 1) (drop 1 bytes) ≡ a ++ rest
+    → bytes ≡ 46 ∷ (a ++ rest)
+point_first bytes a rest h e s = begun bytes (a ++ rest) 46 h e (sym (take_rest bytes 1) ∙ s)

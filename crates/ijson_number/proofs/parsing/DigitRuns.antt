@@ -1,6 +1,6 @@
 -- The leading digits of a text, and its one division into parts.
-use Rattle.ijson_number.proofs.Common.{pos, value, ◌≡◌, ◌↔◌, ℕ, suc, ◌+◌, ◌-◌, ◌<◌, ◌≤◌, List, [], ◌∷◌, ◌++◌, length, get_or, drop, replicate, refl}
-use Rattle.ijson_number.proofs.Common.{◌∙◌, arith, drop_more, append-nil, AllDigits, IsDigits, BeginsWithNoDigit, Bool, sym, ap, inl, inr}
+use Rattle.ijson_number.proofs.Common.{pos, value, ◌≡◌, ℕ, suc, ◌+◌, ◌-◌, ◌<◌, ◌≤◌, List, [], ◌∷◌, ◌++◌, length, get_or, drop, replicate, refl}
+use Rattle.ijson_number.proofs.Common.{◌∙◌, arith, drop_more, AllDigits, IsDigits, BeginsWithNoDigit, Bool, sym, inl, inr}
 use Rattle.ijson_number.proofs.Common.{append_assoc, ℤ, IsMinus, IsWhole, IsFraction, IsExponent, IsSigned, Parts, IsSpelled, IsTail, IsSignTaken}
 
 pub zeros_from : (bs : List ℕ) (n : ℕ) → 0 < n → n ≤ length bs → get_or bs (n - 1) 0 ≡ 48 → drop n bs ≡ replicate (length bs - n) 48
@@ -47,15 +47,6 @@ one_run [] (d ∷ b) (c ∷ x) y p q n m e = let h : d ≡ c = cc in absurd (n (
 one_run (c ∷ a) [] x [] p q n m e = absurd (cc)
 one_run (c ∷ a) [] x (d ∷ y) p q n m e = let h : c ≡ d = cc in absurd (m (rw h at p.0))
 one_run (c ∷ a) (d ∷ b) x y p q n m e = let r = one_run a b x y p.1 q.1 n m (cc) in grind arith
-
--- a text that begins with a run of digits consists of digits if and only if nothing follows them
-pub run_digits : (a b : List ℕ) → AllDigits a → BeginsWithNoDigit b → IsDigits (a ++ b) ↔ ((0 < length a) × (length b ≡ 0))
-run_digits a [] p n = (
-  λ h. let l : 0 < length (a ++ []) = IsDigits_nonempty (a ++ []) h in
-      (simp append-nil at l, refl),
-  λ h. rw append-nil (IsDigits_from a h.0 p),
-)
-run_digits a (x ∷ b) p n = (λ h. absurd (n (AllDigits_right a (x ∷ b) (IsDigits_all (a ++ x ∷ b) h)).0), λ h. absurd (omega arith))
 
 pub exponent_begins : (et : List ℕ) (z : ℤ) (w : Bool) → IsExponent et z w → BeginsWithNoDigit et
 exponent_begins [] z w h = tt
@@ -127,14 +118,6 @@ unsigned_one t w w' f f' z z' p p' u v =
     let s = tail_one v.rest f f' z z' p p' r.1 v.tail_is in
     (r.0, s.0, s.1, s.2)
 
-pub no_whole : (bytes a rest : List ℕ) → bytes ≡ a ++ rest → AllDigits a → BeginsWithNoDigit rest → (IsWhole a → ⊥)
-    → (w f : List ℕ) (z : ℤ) (p : Bool) → IsUnsigned bytes w f z p → ⊥
-no_whole bytes a rest e d n none w f z p u = let r = unsigned_at bytes a rest w f z p e d n u in none (rw r.0 at u.whole_is)
-
-pub no_rest : (bytes a rest : List ℕ) → bytes ≡ a ++ rest → AllDigits a → BeginsWithNoDigit rest
-    → ((f : List ℕ) (z : ℤ) (p : Bool) → IsTail rest f z p → ⊥) → (w f : List ℕ) (z : ℤ) (p : Bool) → IsUnsigned bytes w f z p → ⊥
-no_rest bytes a rest e d n none w f z p u = none f z p (unsigned_at bytes a rest w f z p e d n u).1
-
 pub sign_one : (t r r' : List ℕ) (n n' : Bool) → IsSignTaken t n r → IsSignTaken t n' r' → (n ≡ n') × (r ≡ r')
 sign_one [] r r' n n' g h = elim g [ inl p ↦ absurd (cc) | inr p ↦ elim h [ inl q ↦ absurd (cc) | inr q ↦ (cc, cc) ] ]
 sign_one (b ∷ t) r r' n n' g h = grind arith
@@ -177,33 +160,6 @@ spelled_sign t p s =
 pub minus_of : (text unsigned : List ℕ) (negative : Bool) → IsSignTaken text negative unsigned
     → (minus : List ℕ) × IsMinus minus negative × (text ≡ minus ++ unsigned)
 minus_of text unsigned negative sign = elim sign [ inl e ↦ (45 ∷ [], inr (refl, e.1), e.0) | inr e ↦ ([], inl (refl, e.1), e.0) ]
-
-pub spelled_from : (t : List ℕ) (p : Parts) (r : List ℕ) → IsSignTaken t p.negative r → IsUnsigned r p.whole p.fraction p.exponent p.point
-    → IsSpelled t p
-spelled_from t p r h u =
-    let x = u.tail_is in
-    let minus = minus_of t r p.negative h in
-    let split : r ≡ p.whole ++ (x.fraction_text ++ x.exponent_text) = u.text_is ∙ ap (λ l. p.whole ++ l) x.text_is in
-    record {
-      minus_text = minus.0;
-      fraction_text = x.fraction_text;
-      exponent_text = x.exponent_text;
-      has_point = x.has_point;
-      has_exponent = x.has_exponent;
-      text_is = minus.2 ∙ ap (λ l. minus.0 ++ l) split ∙ simp append_assoc;
-      minus = minus.1;
-      whole = u.whole_is;
-      fraction = x.fraction_is;
-      exponent = x.exponent_is;
-      point = x.point_is;
-    }
-
-pub no_spelling : (t r : List ℕ) (n : Bool) → IsSignTaken t n r → ((w f : List ℕ) (z : ℤ) (p : Bool) → IsUnsigned r w f z p → ⊥)
-    → (p : Parts) → IsSpelled t p → ⊥
-no_spelling t r n h none p s =
-    let x = spelled_sign t p s in
-    let e = sign_one t x.0 r p.negative n x.1 h in
-    none p.whole p.fraction p.exponent p.point (rw e.1 at x.2)
 
 same_parts : (n n' : Bool) (w w' f f' : List ℕ) (z z' : ℤ) (p p' : Bool) → n ≡ n' → w ≡ w' → f ≡ f' → z ≡ z' → p ≡ p'
     → (let a : Parts = record { negative = n; whole = w; fraction = f; exponent = z; point = p } in

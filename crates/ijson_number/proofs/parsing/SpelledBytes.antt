@@ -7,7 +7,7 @@ use Rattle.ijson_number.proofs.parsing.DigitRuns.{whole_all, IsDigits_all}
 abbrev NumberBytes : List ℕ → Type 0
 NumberBytes bs = AllByRecursion (λ b. IsTrue (is_number_byte b)) bs
 
-digit_test : (b : ℕ) → 48 ≤ b → b ≤ 57 → IsTrue (is_digit b)
+pub digit_test : (b : ℕ) → 48 ≤ b → b ≤ 57 → IsTrue (is_digit b)
 digit_test b l h = rw (le-leb 48 b l, le-leb b 57 h) refl
 
 digit_bytes : (bs : List ℕ) → AllDigits bs → NumberBytes bs

@@ -1,11 +1,12 @@
 -- A sign, a magnitude, an exponent and a fraction point, as the fast reader returns them.
-use Rattle.std.specs.Prelude.{◌≡◌, ◌≢◌, ◌⊎◌, ℕ, ◌+◌, ◌^◌, ◌<◌, ◌≤◌, Bool, List, [], ◌∷◌, ◌++◌, drop, length, nat_lt, take, true, false}
+use Rattle.std.specs.Prelude.{◌≡◌, ◌⊎◌, ℕ, ◌+◌, ◌^◌, ◌<◌, ◌≤◌, Bool, List, ◌++◌, drop, length, nat_lt, take, true, false}
 use Rattle.std.specs.Prelude.{ℤ, pos, negsuc, neg_ℤ, ◌*◌, ◌+ℤ◌, ◌≤ℤ◌}
 use Rattle.std.specs.Int.Digits.{number_from_digits_after}
-use Rattle.ijson_number.specs.CommonFront.{EndsDigits, EndsToken}
+use Rattle.ijson_number.specs.private.CommonFront.{EndsDigits, EndsToken}
 use Rattle.ijson_number.specs.Decimal.{Decimal}
 use Rattle.ijson_number.specs.Grammar.{IsExponent, IsFraction, IsMinus, IsWhole, Spells, value}
 use Rattle.ijson_number.specs.Num.{IsNum}
+use Rattle.ijson_number.specs.NumberFront.{HasNoPoint}
 use Rattle.ijson_number.specs.Stripped.{stripped_number}
 use Rattle.ijson_number.specs.Strips.{signed}
 use Rattle.ijson_number.specs.private.Stripped.{digits_from_text}
@@ -29,11 +30,6 @@ pub record HasFewerTens (s t : Significand) : Type 0 where
   pub count : ℕ
   pub magnitude : s.magnitude ≡ t.magnitude * 10 ^ count
   pub exponent : t.exponent ≡ s.exponent +ℤ pos count
-
--- the text does not begin with a point, if none was written before it
-abbrev pub HasNoPoint : (has_point : Bool) → List ℕ → Type 0
-HasNoPoint has_point [] = Unit {0}
-HasNoPoint has_point (b ∷ bs) = has_point ≡ false → b ≢ 46
 
 -- a fraction or none, the text after it, and the number with its digits appended
 pub record IsFractionTaken (number : ℕ) (text : List ℕ) (longer scale : ℕ) (rest : List ℕ) : Type 0 where

@@ -1,20 +1,28 @@
 //! Rejected texts, leading numbers, and the messages of errors.
 
 use super::spelled;
-use crate::number::{INumber, Looks, ParseNumberError, first_fault};
+use crate::number::{INumber, Looks, ParseNumberError, ReadNumberError};
 use crate::tests::support::is_shown;
 use std::alloc::{AllocError, Global};
 use std::error::Error;
 use std::process::Abort;
 
-/// Texts of no number, or of one out of range, and the index of the first fault. A number out of range has none.
+/// Texts that spell no number, or one out of range, and what `read_front` returns for each: the length read, or the error.
 #[rattlefmt::skip]
-static REJECTED: [(&str, Option<usize>); 23] = [
-    ("", Some(0)), ("+1", Some(0)), (" 1", Some(0)), (".5", Some(0)), ("-", Some(1)), ("01", Some(1)),
-    ("0001", Some(1)), ("1 ", Some(1)), ("1-2", Some(1)), ("-01", Some(2)), ("1.", Some(2)), ("1.x", Some(2)),
-    ("1e", Some(2)), ("1e+", Some(3)), ("1e5e", Some(3)), ("1.5.5", Some(3)), ("1.5e+", Some(5)), ("1.5E-", Some(5)),
-    ("1e1073741825-", Some(12)), ("1e1073741825", None), ("10e1073741824", None), ("1e-1073741825", None),
-    ("1e99999999999999999999999999999999999999999999", None),
+static REJECTED: [(&str, Result<usize, ReadNumberError>); 29] = [
+    ("", Err(ReadNumberError::Syntax { at: 0 })), ("+1", Err(ReadNumberError::Syntax { at: 0 })),
+    (" 1", Err(ReadNumberError::Syntax { at: 0 })), (".5", Err(ReadNumberError::Syntax { at: 0 })),
+    ("-", Err(ReadNumberError::Syntax { at: 1 })), ("-x", Err(ReadNumberError::Syntax { at: 1 })), ("01", Ok(1)),
+    ("0001", Ok(1)), ("1 ", Ok(1)), ("1-2", Ok(1)), ("-01", Ok(2)), ("12e5x", Ok(4)),
+    ("1.", Err(ReadNumberError::Syntax { at: 2 })), ("1.x", Err(ReadNumberError::Syntax { at: 2 })),
+    ("1e", Err(ReadNumberError::Syntax { at: 2 })), ("1e+", Err(ReadNumberError::Syntax { at: 3 })),
+    ("1e+-", Err(ReadNumberError::Syntax { at: 3 })), ("1e5e", Ok(3)), ("1e5.5", Ok(3)), ("1.5.5", Ok(3)),
+    ("12345678901234567890.x", Err(ReadNumberError::Syntax { at: 21 })),
+    ("1.5e+", Err(ReadNumberError::Syntax { at: 5 })), ("1.5E-", Err(ReadNumberError::Syntax { at: 5 })),
+    ("1e1073741825-", Err(ReadNumberError::OutOfRange)), ("1e1073741825", Err(ReadNumberError::OutOfRange)),
+    ("10e1073741824", Err(ReadNumberError::OutOfRange)), ("1e-1073741825", Err(ReadNumberError::OutOfRange)),
+    ("1e9999999999999999999999999999999999999999", Err(ReadNumberError::OutOfRange)),
+    ("1e99999999999999999999999999999999999999999999.5", Err(ReadNumberError::OutOfRange)),
 ];
 
 /// Asserts the message and the debug output of an error.
@@ -26,12 +34,12 @@ fn tells(rt: &impl Abort, alloc: Global, error: &impl Error, want: &str) {
 #[test]
 fn rejected_texts(rt: HostRuntime) {
     let alloc = rt.alloc();
-    for &(text, fault) in &REJECTED {
+    for &(text, want) in &REJECTED {
         let refusal = counted!(alloc; INumber::from_str(alloc, text)).err();
         assert!(rt; refusal == Some(ParseNumberError::Invalid), "{text}");
-        assert!(rt; counted!(alloc; first_fault(text)) == fault, "{text}");
+        let read = counted!(alloc; INumber::read_front(alloc, text));
+        assert!(rt; read.map(|(_, length)| length) == want, "{text}");
     }
-    assert!(rt; first_fault("-0.50E-007").is_none());
     let invalid = "not a JSON number, or its exponent is out of range: Invalid";
     tells(&rt, alloc, &ParseNumberError::Invalid, invalid);
     tells(
@@ -40,35 +48,43 @@ fn rejected_texts(rt: HostRuntime) {
         &ParseNumberError::Memory,
         "out of memory: Memory",
     );
+    tells(
+        &rt,
+        alloc,
+        &ReadNumberError::Syntax { at: 2 },
+        "not a JSON number at byte 2: Syntax { at: 2 }",
+    );
+    tells(
+        &rt,
+        alloc,
+        &ReadNumberError::OutOfRange,
+        "exponent out of range: OutOfRange",
+    );
     let mut looks = Looks::new();
     looks.add_one();
     looks.add(41);
     is_shown(&rt, alloc, &looks, "Looks { seen: 42 }");
 }
 
-/// Texts, and the number of leading bytes read of each.
+/// Texts, and the number of leading bytes that spell a number.
 #[rattlefmt::skip]
-static FRONTS: [(&str, Option<usize>); 17] = [
-    ("12", Some(2)), ("1234567890123456789,", Some(19)), ("-0.0012345678901234567,", Some(22)),
-    ("-123.4567890123450, 2", Some(18)), ("0.1234567890123456789e-5", Some(24)), ("-1.50]", Some(5)),
-    ("1.5.5", Some(3)), ("1E-0007,2", Some(7)), ("1e5.5", Some(3)), ("1.x", None), ("1.1234567890123456789", None),
-    ("12345678901234567890.5", None), ("12e5x", None), ("1e12345", None), ("1e+", None), ("1.", None), ("01", None),
+static FRONTS: [(&str, usize); 13] = [
+    ("12", 2), ("1234567890123456789,", 19), ("-0.0012345678901234567,", 22), ("-123.4567890123450, 2", 18),
+    ("0.1234567890123456789e-5", 24), ("-1.50]", 5), ("1.5.5", 3), ("1E-0007,2", 7), ("1e5.5", 3),
+    ("1.1234567890123456789", 21), ("12345678901234567890.5", 22), ("1e12345", 7), ("01", 1),
 ];
 
 /// Asserts the length of the leading number of a text, and that its bytes alone spell the number.
-fn has_front(rt: &impl Abort, alloc: Global, text: &str, want: Option<usize>) {
-    match granted!(rt; INumber::at_front(alloc, text)) {
-        Some((number, length)) => {
-            let whole = spelled(rt, alloc, text.get(..length).expect(rt, text));
-            assert!(*rt;
-                Some(length) == want && number.form() == whole.form(),
-                "{text}"
-            );
-            drop(number);
-            drop(whole);
-        }
-        None => assert!(*rt; want.is_none(), "{text}"),
-    }
+fn has_front(rt: &impl Abort, alloc: Global, text: &str, want: usize) {
+    let (number, length) =
+        granted!(rt; ReadNumberError::Memory; INumber::read_front(alloc, text));
+    let whole = spelled(rt, alloc, text.get(..length).expect(rt, text));
+    assert!(*rt;
+        length == want && number.form() == whole.form(),
+        "{text}"
+    );
+    drop(number);
+    drop(whole);
 }
 
 #[test]

@@ -1,11 +1,11 @@
-use Rattle.ijson_number.proofs.Common.{List, ℕ, refl, ◌↔◌, IfNone, IfSome, IsTrue, Option, Some, None, is_some, IsSpelled, Parts, parts_of}
-use Rattle.ijson_number.specs.declared.general_reader.Spelling.{Spelling}
+use Rattle.ijson_number.proofs.Common.{arith, nat_tests}
+use Rattle.ijson_number.proofs.parsing.NumberFronts.{cut_spells, spelling_whole}
 use Rattle.ijson_number.proofs.general_reader.is_spelling.Goals as goal
 
-told : (found : Option Spelling) (text : List ℕ) → IfSome found (λ s. IsSpelled text (parts_of s))
-    → IfNone found ((p : Parts) → IsSpelled text p → ⊥) → IsTrue (is_some found) ↔ ((p : Parts) × IsSpelled text p)
-told (Some s) text some none = (λ _. (parts_of s, some), λ _. refl)
-told None text some none = (λ e. absurd (cc), λ p. absurd (none p.0 p.1))
+pub returns-in-Ok : goal.returns-in-Ok
+returns-in-Ok c =
+    let w = spelling_whole c.args.text.now c.in-Ok.rest.now c.in-Ok.field-0-0 c.in-Ok.ensures.ok in
+    (λ h. w.0 (grind (arith, nat_tests)), λ n. let z = w.1 n in grind (arith, nat_tests))
 
-pub returns : goal.returns
-returns c = rw c.is_some.ensures (told c.read_spelling.result c.args.text.now c.read_spelling.ensures.found c.read_spelling.ensures.none)
+pub returns-in-Err : goal.returns-in-Err
+returns-in-Err c = (λ h. absurd (cc), λ n. absurd (cut_spells c.args.text.now c.in-Err.field-0.now c.in-Err.ensures.err n))

@@ -1,30 +1,22 @@
-use Rattle.ijson_number.proofs.Common.{arith}
-use Rattle.ijson_number.proofs.parsing.DigitRuns.{no_rest, no_spelling, no_whole, spelled_from}
+use Rattle.std.proofs.lemmas.Result.{err_from_is_err_and}
+use Rattle.ijson_number.proofs.parsing.NumberFronts.{cut_tail, cut_whole, spelling_read}
 use Rattle.ijson_number.proofs.general_reader.read_spelling.Goals as goal
 
-pub returns-then-not-is_whole-clause-none : goal.returns-then-not-is_whole-clause-none
-returns-then-not-is_whole-clause-none c =
+pub returns-in_default-clause-err : goal.returns-in_default-clause-err
+returns-in_default-clause-err c =
     let sign = c.split_sign-negative in
-    let split = c.split_digits.ensures in
-    no_spelling c.args.text.now sign.result.1.now sign.result.0 sign.ensures
-    (no_whole sign.result.1.now c.split_digits.result.0.now c.split_digits.result.1.now split.text split.digits split.rest
-    (λ h. let t = c.is_whole.ensures.1 h in let f = c.if-not-is_whole.true in grind arith))
+    cut_whole c.args.text.now sign.result.1.now sign.result.0 sign.ensures c.in_default.ensures.none
 
-pub returns-in_err-tail-clause-none : goal.returns-in_err-tail-clause-none
-returns-in_err-tail-clause-none c =
+pub returns-in_err-tail-clause-err : goal.returns-in_err-tail-clause-err
+returns-in_err-tail-clause-err c =
     let sign = c.split_sign-negative in
-    let split = c.split_digits.ensures in
-    rw c.from_residual.ensures
-    (no_spelling c.args.text.now sign.result.1.now sign.result.0 sign.ensures
-    (no_rest sign.result.1.now c.split_digits.result.0.now c.split_digits.result.1.now split.text split.digits split.rest
-    c.in_err-tail.ensures.none))
+    let p = err_from_is_err_and c.from_residual.result c.from_residual.ensures.1 in
+    rw (p.1, p.2)
+    (cut_tail c.args.text.now sign.result.1.now c.in-Some.whole.now c.in-Some.behind.now c.in_err-tail.field-0.0.now sign.result.0 sign.ensures
+    c.in-Some.ensures.some c.in_err-tail.ensures.err)
 
-pub returns-clause-found : goal.returns-clause-found
-returns-clause-found c =
+pub returns-clause-ok : goal.returns-clause-ok
+returns-clause-ok c =
     let sign = c.split_sign-negative in
-    spelled_from c.args.text.now _ sign.result.1.now sign.ensures (record {
-      rest = c.split_digits.result.1.now;
-      text_is = c.split_digits.ensures.text;
-      whole_is = c.is_whole.ensures.0 (let f = c.if-not-is_whole.false in grind arith);
-      tail_is = c.in_ok-tail.ensures.found;
-    })
+    spelling_read c.args.text.now sign.result.1.now c.in-Some.behind.now c.in_ok-tail.rest.now _ sign.ensures c.in-Some.ensures.some
+    c.in_ok-tail.ensures.ok

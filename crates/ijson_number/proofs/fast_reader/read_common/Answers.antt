@@ -3,7 +3,7 @@ use Rattle.std.proofs.lemmas.Option.{IfSome_then}
 use Rattle.ijson_number.proofs.AnyAnswer.{none_with}
 use Rattle.ijson_number.proofs.parsing.CommonFronts.{ends_at_once}
 use Rattle.ijson_number.proofs.parsing.FrontNumbers.{front_alone, whole_length}
-use Rattle.ijson_number.proofs.fast_reader.read_front.Goals as goal
+use Rattle.ijson_number.proofs.fast_reader.read_common.Goals as goal
 
 pub returns-then-continues_token-clause-common : goal.returns-then-continues_token-clause-common
 returns-then-continues_token-clause-common c =

@@ -1,5 +1,5 @@
 use Rattle.ijson_number.proofs.Common.{◌≤◌, ◌-◌, length, take, AllDigits}
-use Rattle.ijson_number.proofs.general_reader.split_digits.Given as goal
+use Rattle.ijson_number.proofs.grammar.split_digits.Given as goal
 
 abbrev pub invariant-loop-count : goal.invariant-loop-count
 invariant-loop-count l = record { inside : l.count ≤ length l.bytes; digits : AllDigits (take l.count l.bytes) }

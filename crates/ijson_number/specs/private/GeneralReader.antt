@@ -1,0 +1,94 @@
+-- The parts that the general reader splits off a text, and where it stops.
+use Rattle.std.specs.Prelude.{◌≡◌, ◌⊎◌, ℕ, ℤ, Bool, true, false, List, [], ◌∷◌, ◌++◌}
+use Rattle.ijson_number.specs.Strips.{signed}
+use Rattle.ijson_number.specs.Grammar.{AllDigits, IsExponent, IsFraction, IsSpelled, IsWhole, Parts, value}
+use Rattle.ijson_number.specs.private.CanonicalSpelling.{parts_of}
+use Rattle.ijson_number.specs.private.NumberStates.{start, letter, zero_digit, is_final, is_letter, Halts}
+use Rattle.ijson_number.specs.private.Reading.{BeginsWithNoDigit, IsTail}
+use Rattle.ijson_number.specs.NumberFront.{HasNoPoint}
+use Rattle.ijson_number.specs.declared.general_reader.Spelling.{Spelling}
+use Rattle.ijson_number.specs.declared.general_reader.Tail.{Tail}
+
+-- a whole part, and the text after it
+pub record IsWholeRead (text whole rest : List ℕ) : Type 0 where
+  pub text_is : text ≡ whole ++ rest
+  pub whole_is : IsWhole whole
+  pub ends : (whole ≡ 48 ∷ []) ⊎ BeginsWithNoDigit rest
+
+-- the text after a fraction, or after none
+abbrev pub EndsFraction : (has_point : Bool) → List ℕ → Type 0
+EndsFraction false rest = HasNoPoint false rest
+EndsFraction true rest = BeginsWithNoDigit rest
+
+-- a fraction or none, its digits, and the text after it
+pub record IsFractionRead (text digits rest : List ℕ) : Type 0 where
+  pub front : List ℕ
+  pub has_point : Bool
+  pub text_is : text ≡ front ++ rest
+  pub fraction : IsFraction front digits has_point
+  pub ends : EndsFraction has_point rest
+
+-- the text ends, or begins with neither 'e' nor 'E'
+abbrev pub BeginsWithNoLetter : List ℕ → Type 0
+BeginsWithNoLetter [] = Unit {0}
+BeginsWithNoLetter (b ∷ bs) = is_letter b ≡ false
+
+-- the text after an exponent, or after none
+abbrev pub EndsExponent : (has_exponent : Bool) → List ℕ → Type 0
+EndsExponent false rest = BeginsWithNoLetter rest
+EndsExponent true rest = BeginsWithNoDigit rest
+
+-- an exponent or none, its sign and digits, and the text after it
+pub record IsExponentRead (text : List ℕ) (negative : Bool) (digits rest : List ℕ) : Type 0 where
+  pub front : List ℕ
+  pub has_exponent : Bool
+  pub text_is : text ≡ front ++ rest
+  pub exponent : IsExponent front (signed negative (value digits)) has_exponent
+  pub all_digits : AllDigits digits
+  pub ends : EndsExponent has_exponent rest
+
+-- an exponent without digits, and the text after it
+pub record IsExponentCut (text rest : List ℕ) : Type 0 where
+  pub first : ℕ
+  pub sign : List ℕ
+  pub value : ℤ
+  pub text_is : text ≡ first ∷ (sign ++ rest)
+  pub is_first : is_letter first ≡ true
+  pub opens : IsExponent (first ∷ (sign ++ 48 ∷ [])) value true
+  pub halts : Halts letter sign rest
+  pub unfinished : is_final halts.at ≡ false
+
+-- the part after the whole digits, and the text after it
+pub record IsTailRead (text : List ℕ) (tail : Tail) (rest : List ℕ) : Type 0 where
+  pub front : List ℕ
+  pub text_is : text ≡ front ++ rest
+  pub tail_is : IsTail front tail.fraction.now (signed tail.negative (value tail.exponent.now)) tail.point
+  pub all_digits : AllDigits tail.exponent.now
+  pub halts : Halts zero_digit front rest
+
+-- the part after the whole digits without its last digits, and the text after it
+pub record IsTailCut (text rest : List ℕ) : Type 0 where
+  pub front : List ℕ
+  pub fraction : List ℕ
+  pub exponent : ℤ
+  pub text_is : text ≡ front ++ rest
+  pub opens : IsTail (front ++ 48 ∷ []) fraction exponent true
+  pub halts : Halts zero_digit front rest
+  pub unfinished : is_final halts.at ≡ false
+
+-- the parts of the leading number, and the text after it
+pub record IsSpellingRead (text : List ℕ) (spelling : Spelling) (rest : List ℕ) : Type 0 where
+  pub front : List ℕ
+  pub text_is : text ≡ front ++ rest
+  pub spelled : IsSpelled front (parts_of spelling)
+  pub all_digits : AllDigits spelling.tail.exponent.now
+  pub halts : Halts start front rest
+
+-- the beginning of a number that is none itself, and the text after it
+pub record IsCut (text rest : List ℕ) : Type 0 where
+  pub front : List ℕ
+  pub parts : Parts
+  pub text_is : text ≡ front ++ rest
+  pub opens : IsSpelled (front ++ 48 ∷ []) parts
+  pub halts : Halts start front rest
+  pub unfinished : is_final halts.at ≡ false
