@@ -25,11 +25,11 @@ BINDINGS = pathlib.Path(__file__).resolve().parent
 sys.path[:0] = [str(BINDINGS.parent / "tests" / "fuzz"), str(BINDINGS / "python")]
 
 from answers import answer, quoted
-from ijson_proved._library import LIBRARY
+from ijson_proved._library import LIBRARY, Status
 from seeds import SEEDS, STATED
 
 SEED = 0x5EED
-OK, NOT_UTF8, SYNTAX, TOO_DEEP, NUMBER_RANGE, MEMORY, TOO_SHORT, NOT_POINTER, NOTHING = range(9)
+OK, NOT_UTF8, SYNTAX, TOO_DEEP, NUMBER_RANGE, MEMORY, TOO_SHORT, NOT_POINTER, NOTHING = Status
 STATUSES = {"syntax": SYNTAX, "nesting too deep": TOO_DEEP, "number out of range": NUMBER_RANGE}
 TEXTS = SEEDS + [text for text, _ in STATED if len(text) < 300]
 LIKELY = b'[]{}",:\\ \n\t-+.eEu0123456789tfnabd~/\x00\x1f\x7f\x80\xc3\xed\xf0\xff'

@@ -1,5 +1,5 @@
 #!/usr/bin/env python3
-"""Compares the statuses and the version of `ijson.h` with those of the proved crate, Python and Rust.
+"""Compares the statuses and the version of `ijson.h` with those of the proved crate, Python, Rust and their page.
 
 usage: bindings/statuses.py
 
@@ -28,7 +28,7 @@ def of_source():
     statuses = found("ijson_c/src/outcome.rt.txt", r"^pub\(crate\) const (\w+): Outcome = Outcome \{\s+status: (\d+),",
                      r"JsonError::(\w+)(?: \{ at \})? => \((\d+),")
     refused, = re.findall(r"_refused: AllocError\) -> Outcome \{\s+Outcome \{\s+status: (\d+),", (BINDINGS / "ijson_c/src/outcome.rt.txt").read_text())
-    not_utf8, = re.findall(r"from_utf8\(bytes\) else \{\s+return Err\(Outcome \{\s+status: (\d+),", (BINDINGS / "ijson_c/src/read.rt.txt").read_text())
+    not_utf8, = re.findall(r"from_utf8\(.*\) else \{\s+return Err\(Outcome \{\s+status: (\d+),", (BINDINGS / "ijson_c/src/read.rt.txt").read_text())
     return statuses | {"NOT_UTF8": int(not_utf8)} | ({} if statuses.get("MEMORY") == int(refused) else {"MEMORY": int(refused)})
 
 
@@ -58,10 +58,12 @@ def main():
     version = re.search(r'#define IJSON_VERSION "(.*)"', (BINDINGS / "c/ijson.h").read_text())[1]
     amiss = [f"{place}: {name} is {there.get(name)}, and {header.get(name)} in ijson.h"
              for place, there in statuses().items() for name in header.keys() | there.keys() if there.get(name) != header.get(name)]
+    page = re.findall(r"^\| `IJSON_(\w+)` \|", (BINDINGS.parent / "docs/other-languages.md").read_text(), re.MULTILINE)
+    amiss += [f"docs/other-languages.md: {name} is in either this page or ijson.h" for name in header.keys() ^ set(page)]
     amiss += [f"{place}: the version is {there}, and {version} in ijson.h" for place, there in versions().items() if there != version]
     amiss += [f"ijson.h: two statuses are {number}" for number in set(header.values()) if list(header.values()).count(number) > 1]
     print(*amiss, sep="\n", end="\n" * bool(amiss), file=sys.stderr)
-    print(len(header) * len(statuses()) + len(versions()) - len(amiss), len(amiss))
+    print(len(header) * (len(statuses()) + 1) + len(versions()) - len(amiss), len(amiss))
     sys.exit(1 if amiss or len(header) < 2 else 0)
 
 
