@@ -49,7 +49,8 @@ typedef struct {
  * secret. Keys of objects can be chosen that make looking them up take quadratic time whatever the seed, so limit the size of texts.
  *
  * The first four functions write a text to the start of the output and set *length to its length. If it does not fit, the status is
- * IJSON_TOO_SHORT; so a call with an output of length 0 returns the length that is needed. At any other failure *length is 0.
+ * IJSON_TOO_SHORT; so a call with an output of length 0 returns the length that is needed. At any other failure *length is 0. At every
+ * failure the output is unchanged, and after success its bytes past *length are.
  */
 
 /* The text without white space. Members keep their order, and numbers their value and whether they have a fraction point. */
