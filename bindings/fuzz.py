@@ -281,9 +281,9 @@ def call_writing(name, texts, wanted, outcome):
     return len(rooms)
 
 
-def call_number(name, seed, texts, kind, wanted, outcome):
+def call_number(name, texts, kind, wanted, outcome, *others):
     result = kind(77)
-    got = getattr(LIBRARY, f"ijson_{name}")(seed, *arguments(texts), ctypes.byref(result))
+    got = getattr(LIBRARY, f"ijson_{name}")(SEED, *arguments(texts), *others, ctypes.byref(result))
     if (got.status, got.text, got.offset) != (outcome or (OK, 0, 0)) or result.value != (0 if outcome else wanted):
         raise Failed(name, texts, (got.status, got.text, got.offset), result.value, wanted, outcome)
     return 1
@@ -336,17 +336,17 @@ def try_equal(rng, text):
     if rng.randrange(8) == 0:
         text, other = other, text
     a, b, fault = both(text, other)
-    return call_number("equal", SEED, [text, other], ctypes.c_uint8, int(same(a, b)), fault)
+    return call_number("equal", [text, other], ctypes.c_uint8, int(same(a, b)), fault)
 
 
 def try_hash(rng, text):
     seed = rng.getrandbits(64)
     value, fault = value_of(text)
-    calls = call_number("hash", seed, [text], ctypes.c_uint64, hashed(seed, value), fault)
+    calls = call_number("hash", [text], ctypes.c_uint64, hashed(seed, value), fault, seed)
     if not fault:
         other = respelled(rng, value)
         value, fault = value_of(other)
-        calls += call_number("hash", seed, [other], ctypes.c_uint64, hashed(seed, value), fault)
+        calls += call_number("hash", [other], ctypes.c_uint64, hashed(seed, value), fault, seed)
     return calls
 
 

@@ -45,8 +45,8 @@ typedef struct {
 } ijson_outcome;
 
 /* The seed is a random number, best chosen once for a process: with a number that an attacker knows, texts can be made whose reading takes
- * quadratic time. Only the result of ijson_hash depends on it: a hash that is the same from run to run needs a seed that is too, so keep it
- * secret. Keys of objects can be chosen that make looking them up take quadratic time whatever the seed, so limit the size of texts.
+ * quadratic time. No result depends on it. Keys of objects can be chosen that make looking them up take quadratic time whatever the
+ * seed, so limit the size of texts.
  *
  * The first four functions write a text to the start of the output and set *length to its length. If it does not fit, the status is
  * IJSON_TOO_SHORT; so a call with an output of length 0 returns the length that is needed. At any other failure *length is 0. At every
@@ -71,8 +71,8 @@ ijson_outcome ijson_merge_patch(uint64_t seed, const uint8_t *target, size_t tar
 ijson_outcome ijson_equal(uint64_t seed, const uint8_t *first, size_t first_length, const uint8_t *second, size_t second_length,
                           uint8_t *equal);
 
-/* Sets *hash to a hash of the seed and the value, which is the same for equal values; at a failure, to 0. */
-ijson_outcome ijson_hash(uint64_t seed, const uint8_t *text, size_t text_length, uint64_t *hash);
+/* Sets *hash to a hash of hash_seed and the value, which is the same for equal values; at a failure, to 0. */
+ijson_outcome ijson_hash(uint64_t seed, const uint8_t *text, size_t text_length, uint64_t hash_seed, uint64_t *hash);
 
 #ifdef __cplusplus
 }

@@ -128,7 +128,7 @@ static long numbers_are_refused_memory(struct text text) {
         }
         assert(outcome.status == IJSON_MEMORY && equal == 0);
         fail_at = at;
-        outcome = ijson_hash(1, text.bytes, text.count, &hash);
+        outcome = ijson_hash(1, text.bytes, text.count, 1, &hash);
         assert(fail_at > 0 ? outcome.status == IJSON_OK : outcome.status == IJSON_MEMORY && hash == 0);
         fail_at = 0;
     }
@@ -139,8 +139,9 @@ static void are_compared(const char *a, const char *b, uint8_t want) {
     uint8_t equal = 7;
     assert(ijson_equal(1, first.bytes, first.count, second.bytes, second.count, &equal).status == IJSON_OK && equal == want);
     uint64_t hash = 0, other = 0;
-    assert(ijson_hash(1, first.bytes, first.count, &hash).status == IJSON_OK);
-    assert(ijson_hash(1, second.bytes, second.count, &other).status == IJSON_OK && (hash == other) == want);
+    assert(ijson_hash(1, first.bytes, first.count, 1, &hash).status == IJSON_OK);
+    assert(ijson_hash(2, second.bytes, second.count, 1, &other).status == IJSON_OK && (hash == other) == want);
+    assert(ijson_hash(1, first.bytes, first.count, 2, &other).status == IJSON_OK && hash != other);
     free(first.bytes);
     free(second.bytes);
 }

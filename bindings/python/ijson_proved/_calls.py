@@ -52,14 +52,14 @@ def _error(outcome: Outcome, texts: dict[str, bytes]) -> Exception:
     return FAULTS[status](argument, outcome.text, offset, line, column)
 
 
-def _done(name: str, seed: int, texts: dict[str, bytes], *results: Any) -> bool:
-    """Calls a function, and returns `False` if the output is too short.
+def _done(name: str, texts: dict[str, bytes], *others: Any) -> bool:
+    """Calls a function on texts and its other arguments, and returns `False` if the output is too short.
 
     # Errors
     The exception for the outcome.
     """
     pieces = [piece for text in texts.values() for piece in (text, len(text))]
-    outcome = getattr(LIBRARY, f"ijson_{name}")(seed, *pieces, *results)
+    outcome = getattr(LIBRARY, f"ijson_{name}")(SEED, *pieces, *others)
     if outcome.status not in (Status.OK, Status.TOO_SHORT):
         raise _error(outcome, texts)
     return bool(outcome.status == Status.OK)
@@ -85,7 +85,7 @@ def _written(name: str, **given: Text) -> str:
     while True:
         output = _output(length.value)
         start = ctypes.c_char.from_buffer(output)
-        if _done(name, SEED, texts, ctypes.byref(start), len(output), ctypes.byref(length)):
+        if _done(name, texts, ctypes.byref(start), len(output), ctypes.byref(length)):
             return str(memoryview(output)[: length.value], "utf-8")
 
 
@@ -128,18 +128,15 @@ def equal(first: Text, second: Text) -> bool:
     False
     """
     result = ctypes.c_uint8()
-    _done("equal", SEED, {"first": _bytes(first), "second": _bytes(second)}, ctypes.byref(result))
+    _done("equal", {"first": _bytes(first), "second": _bytes(second)}, ctypes.byref(result))
     return result.value == 1
 
 
 def hash(text: Text, seed: int | None = None) -> int:
-    """A hash of 64 bits, the same for texts of equal values and one seed. The default is a random seed of this process.
-
-    The text is read with the same seed: with one that strangers know, they can make texts whose reading takes quadratic time.
-    """
+    """A hash of 64 bits, the same for texts of equal values and one seed. The default is a random seed of this process."""
     number = SEED if seed is None else operator.index(seed)
     if not 0 <= number < 1 << 64:
         raise ValueError("a seed is from 0 to 2^64 - 1")
     result = ctypes.c_uint64()
-    _done("hash", number, {"text": _bytes(text)}, ctypes.byref(result))
+    _done("hash", {"text": _bytes(text)}, number, ctypes.byref(result))
     return result.value

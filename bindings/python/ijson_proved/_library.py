@@ -40,7 +40,7 @@ _PARAMETERS = {
     "get": [*_TEXT, *_TEXT, *_OUTPUT],
     "merge_patch": [*_TEXT, *_TEXT, *_OUTPUT],
     "equal": [*_TEXT, *_TEXT, ctypes.POINTER(ctypes.c_uint8)],
-    "hash": [*_TEXT, ctypes.POINTER(ctypes.c_uint64)],
+    "hash": [*_TEXT, ctypes.c_uint64, ctypes.POINTER(ctypes.c_uint64)],
 }
 
 

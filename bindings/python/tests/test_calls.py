@@ -68,6 +68,17 @@ class Hashes(unittest.TestCase):
         self.assertNotEqual(ijson_proved.hash("1", seed=1), ijson_proved.hash("1", seed=2))
         self.assertNotEqual(ijson_proved.hash("1", seed=0), ijson_proved.hash("1", seed=2**64 - 1))
 
+    def test_a_text_is_not_read_with_the_seed_of_its_hash(self):
+        seeds = []
+
+        def hashed(seed, text, count, hash_seed, result):
+            seeds.append((seed, hash_seed))
+            return _library.Outcome(_library.Status.OK, 0, 0)
+
+        with mock.patch.object(_calls, "LIBRARY", mock.Mock(ijson_hash=hashed)):
+            ijson_proved.hash("1", 7)
+        self.assertEqual(seeds, [(_calls.SEED, 7)])
+
     def test_a_seed_has_64_bits(self):
         for seed in -1, 2**64, 2**64 + 7:
             with self.assertRaises(ValueError):

@@ -56,7 +56,7 @@ mod foreign {
             second_count: usize,
             equal: *mut u8,
         ) -> Outcome;
-        pub(super) fn ijson_hash(seed: u64, text: *const u8, count: usize, hash: *mut u64) -> Outcome;
+        pub(super) fn ijson_hash(seed: u64, text: *const u8, count: usize, hash_seed: u64, hash: *mut u64) -> Outcome;
     }
 }
 
@@ -105,6 +105,6 @@ pub(crate) fn equal(seed: u64, first: &[u8], second: &[u8], equal: &mut u8) -> O
     unsafe { foreign::ijson_equal(seed, first.as_ptr(), first.len(), second.as_ptr(), second.len(), equal) }
 }
 
-pub(crate) fn hash(seed: u64, text: &[u8], hash: &mut u64) -> Outcome {
-    unsafe { foreign::ijson_hash(seed, text.as_ptr(), text.len(), hash) }
+pub(crate) fn hash(seed: u64, text: &[u8], hash_seed: u64, hash: &mut u64) -> Outcome {
+    unsafe { foreign::ijson_hash(seed, text.as_ptr(), text.len(), hash_seed, hash) }
 }

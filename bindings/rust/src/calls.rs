@@ -136,10 +136,10 @@ pub fn equal(first: impl AsRef<[u8]>, second: impl AsRef<[u8]>) -> Result<bool, 
     Ok(equal == 1)
 }
 
-/// Returns a hash of `seed` and the value of a text, which is the same for texts of equal values.
-pub fn hash(seed: u64, text: impl AsRef<[u8]>) -> Result<u64, Error> {
+/// Returns a hash of `hash_seed` and the value of a text, which is the same for texts of equal values.
+pub fn hash(hash_seed: u64, text: impl AsRef<[u8]>) -> Result<u64, Error> {
     let mut hash = 0;
-    checked(border::hash(seed, text.as_ref(), &mut hash))?;
+    checked(border::hash(seed(), text.as_ref(), hash_seed, &mut hash))?;
     Ok(hash)
 }
 
