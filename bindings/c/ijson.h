@@ -45,8 +45,7 @@ typedef struct {
 } ijson_outcome;
 
 /* The seed is a random number, best chosen once for a process: with a number that an attacker knows, texts can be made whose reading takes
- * quadratic time. No result depends on it. Keys of objects can be chosen that make looking them up take quadratic time whatever the
- * seed, so limit the size of texts.
+ * quadratic time. No result depends on it.
  *
  * The first four functions write a text to the start of the output and set *length to its length. If it does not fit, the status is
  * IJSON_TOO_SHORT; so a call with an output of length 0 returns the length that is needed. At any other failure *length is 0. At every
@@ -63,7 +62,8 @@ ijson_outcome ijson_canonical(uint64_t seed, const uint8_t *text, size_t text_le
 ijson_outcome ijson_get(uint64_t seed, const uint8_t *text, size_t text_length, const uint8_t *pointer, size_t pointer_length,
                         uint8_t *output, size_t output_length, size_t *length);
 
-/* The compact text of the target after a JSON Merge Patch (RFC 7396). */
+/* The compact text of the target after a JSON Merge Patch (RFC 7396). Keys can be chosen with which it takes quadratic time, whatever the
+ * seed, so limit the size of objects. */
 ijson_outcome ijson_merge_patch(uint64_t seed, const uint8_t *target, size_t target_length, const uint8_t *patch, size_t patch_length,
                                 uint8_t *output, size_t output_length, size_t *length);
 
