@@ -4,7 +4,7 @@
  * function returns.
  *
  * The caller guarantees that
- * - every pointer is not null, also at a length of 0, and a length is the number of bytes at the pointer before it;
+ * - a length is the number of bytes at the pointer before it, which may be null if the length is 0; a result's pointer is not null;
  * - the output and the result are writable, and apart from each other and from the texts;
  * - nothing else, as another thread or a signal handler, changes a text or uses the output or the result during the call;
  * - malloc, realloc and free are one allocator, which aligns a block to each power of two up to 16 that divides its size;

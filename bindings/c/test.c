@@ -55,6 +55,9 @@ static const struct {
     {merge_patch, "{\"a\":1,\"b\":{\"c\":2}}", "{\"a\":null,\"b\":{\"d\":\"e\"}}", "{\"b\":{\"c\":2,\"d\":\"e\"}}"},
 };
 
+#define EIGHT "[[[[[[[["
+#define NESTED EIGHT EIGHT EIGHT EIGHT EIGHT EIGHT EIGHT EIGHT EIGHT EIGHT EIGHT EIGHT EIGHT EIGHT EIGHT EIGHT
+
 /* A value that owns memory. */
 #define OWNER "{\"a\":[\"a string of more than 7 bytes\",1234567890123456789012345678901234567890]}"
 
@@ -74,7 +77,24 @@ static const struct {
     {get, OWNER, "b", {IJSON_NOT_POINTER, 0, 0}},
     {get, OWNER, "/\xff", {IJSON_NOT_POINTER, 0, 0}},
     {canonical, "[\"a string of more than 7 bytes\",\"another one of more\" 1]", "", {IJSON_SYNTAX, 0, 55}},
+    {compact, "[\"a string of more than 7 bytes\"," NESTED, "", {IJSON_TOO_DEEP, 0, 159}},
+    {merge_patch, OWNER, "{\"another one of more\":[\"a string of more than 7 bytes\",1e2000000000]}", {IJSON_NUMBER_RANGE, 1, 56}},
 };
+
+/* Texts of which ijson_equal reports one, and ijson_hash the first. */
+static const struct {
+    const char *first, *second;
+    ijson_outcome want;
+} NOT_COMPARED[] = {
+    {OWNER, "[\"a string of more than 7 bytes\"", {IJSON_SYNTAX, 1, 32}},
+    {OWNER, "\"\xff\"", {IJSON_NOT_UTF8, 1, 0}},
+    {"[\"a string of more than 7 bytes\"," NESTED, OWNER, {IJSON_TOO_DEEP, 0, 159}},
+    {"[" OWNER ",1e2000000000]", "", {IJSON_NUMBER_RANGE, 0, 82}},
+};
+
+static int is_outcome(ijson_outcome got, ijson_outcome want) {
+    return got.status == want.status && got.text == want.text && got.offset == want.offset;
+}
 
 static void is_written(writes *call, struct text first, struct text second, const char *want) {
     size_t need = strlen(want);
@@ -95,42 +115,53 @@ static void is_refused(writes *call, struct text first, struct text second, ijso
     memset(output, 0xa5, sizeof output);
     memcpy(before, output, sizeof before);
     ijson_outcome got = call(first, second, output, sizeof output, &length);
-    assert(got.status == want.status && got.text == want.text && got.offset == want.offset && length == 0);
+    assert(is_outcome(got, want) && length == 0);
     assert(memcmp(output, before, sizeof output) == 0);
 }
 
-/* Returns how many allocations the call makes. */
-static long is_refused_memory(writes *call, struct text first, struct text second) {
+/* Fails each allocation of a call in turn, and returns how many it makes. A list that cannot be shrunk is kept as it is. */
+static long is_refused_memory(writes *call, struct text first, struct text second, const char *want) {
     for (long at = 1;; at++) {
         uint8_t output[200];
         size_t length = 1000;
         fail_at = at;
-        ijson_outcome outcome = call(first, second, output, sizeof output, &length);
+        ijson_outcome outcome = call(first, second, output, sizeof output, &length), memory = {IJSON_MEMORY, 0, 0};
+        int is_written = outcome.status == IJSON_OK && length == strlen(want) && memcmp(output, want, length) == 0;
         if (fail_at > 0) {
             fail_at = 0;
-            assert(outcome.status == IJSON_OK);
+            assert(is_written);
             return at - 1;
         }
-        assert(outcome.status == IJSON_MEMORY && outcome.text == 0 && outcome.offset == 0 && length == 0);
+        assert(is_written || (is_outcome(outcome, memory) && length == 0));
     }
 }
 
+static void are_not_compared(struct text first, struct text second, ijson_outcome want) {
+    uint8_t equal = 7;
+    uint64_t hash = 7;
+    assert(is_outcome(ijson_equal(1, first.bytes, first.count, second.bytes, second.count, &equal), want) && equal == 0);
+    if (want.text == 0) {
+        assert(is_outcome(ijson_hash(1, first.bytes, first.count, 1, &hash), want) && hash == 0);
+    }
+}
+
+/* Like is_refused_memory, for ijson_equal of a text with itself and ijson_hash. */
 static long numbers_are_refused_memory(struct text text) {
+    uint64_t want = 0;
+    assert(ijson_hash(1, text.bytes, text.count, 1, &want).status == IJSON_OK);
     for (long at = 1;; at++) {
         uint8_t equal = 7;
         uint64_t hash = 7;
         fail_at = at;
-        ijson_outcome outcome = ijson_equal(1, text.bytes, text.count, text.bytes, text.count, &equal);
+        ijson_outcome outcome = ijson_hash(1, text.bytes, text.count, 1, &hash);
+        assert(outcome.status == IJSON_OK ? hash == want : outcome.status == IJSON_MEMORY && hash == 0);
+        fail_at = at;
+        outcome = ijson_equal(1, text.bytes, text.count, text.bytes, text.count, &equal);
+        assert(outcome.status == IJSON_OK ? equal == 1 : outcome.status == IJSON_MEMORY && equal == 0);
         if (fail_at > 0) {
             fail_at = 0;
-            assert(outcome.status == IJSON_OK && equal == 1);
             return at - 1;
         }
-        assert(outcome.status == IJSON_MEMORY && equal == 0);
-        fail_at = at;
-        outcome = ijson_hash(1, text.bytes, text.count, 1, &hash);
-        assert(fail_at > 0 ? outcome.status == IJSON_OK : outcome.status == IJSON_MEMORY && hash == 0);
-        fail_at = 0;
     }
 }
 
@@ -146,11 +177,51 @@ static void are_compared(const char *a, const char *b, uint8_t want) {
     free(second.bytes);
 }
 
+/* Returns an object of `count` members, in reverse order if it is turned. The caller frees it. */
+static struct text large_object(int count, int is_turned) {
+    struct text text = {malloc(count * 40 + 2), 0};
+    assert(text.bytes);
+    for (int at = 0; at < count; at++) {
+        int key = is_turned ? count - 1 - at : at;
+        text.count += sprintf((char *)text.bytes + text.count, "%c\"a key of more than 7 bytes %d\":%d", at ? ',' : '{', key, key);
+    }
+    text.bytes[text.count++] = '}';
+    return text;
+}
+
+static void large_objects_are_compared(void) {
+    struct text one = large_object(200, 0), turned = large_object(200, 1), less = large_object(199, 0);
+    uint8_t equal = 7;
+    assert(ijson_equal(1, one.bytes, one.count, turned.bytes, turned.count, &equal).status == IJSON_OK && equal == 1);
+    assert(ijson_equal(1, one.bytes, one.count, less.bytes, less.count, &equal).status == IJSON_OK && equal == 0);
+    assert(numbers_are_refused_memory(turned) > 200);
+    free(one.bytes);
+    free(turned.bytes);
+    free(less.bytes);
+}
+
+/* A text, a pointer or an output of no bytes may be null. */
+static void null_is_empty(void) {
+    struct text one = text_of("[1]");
+    ijson_outcome early = {IJSON_SYNTAX, 0, 0}, second_early = {IJSON_SYNTAX, 1, 0}, done = {IJSON_OK, 0, 0};
+    size_t length = 1000;
+    uint8_t equal = 7, output[3];
+    uint64_t hash = 7;
+    assert(is_outcome(ijson_compact(1, NULL, 0, NULL, 0, &length), early) && length == 0);
+    assert(is_outcome(ijson_canonical(1, NULL, 0, NULL, 0, &length), early) && length == 0);
+    assert(is_outcome(ijson_get(1, one.bytes, one.count, NULL, 0, output, sizeof output, &length), done) && length == 3);
+    assert(ijson_compact(1, one.bytes, one.count, NULL, 0, &length).status == IJSON_TOO_SHORT && length == 3);
+    assert(is_outcome(ijson_merge_patch(1, one.bytes, one.count, NULL, 0, NULL, 0, &length), second_early) && length == 0);
+    assert(is_outcome(ijson_equal(1, NULL, 0, NULL, 0, &equal), early) && equal == 0);
+    assert(is_outcome(ijson_hash(1, NULL, 0, 1, &hash), early) && hash == 0);
+    free(one.bytes);
+}
+
 int main(void) {
     for (size_t i = 0; i < sizeof WRITTEN / sizeof *WRITTEN; i++) {
         struct text first = text_of(WRITTEN[i].first), second = text_of(WRITTEN[i].second);
         is_written(WRITTEN[i].call, first, second, WRITTEN[i].want);
-        assert(is_refused_memory(WRITTEN[i].call, first, second) > 3);
+        assert(is_refused_memory(WRITTEN[i].call, first, second, WRITTEN[i].want) > 3);
         free(first.bytes);
         free(second.bytes);
     }
@@ -160,6 +231,14 @@ int main(void) {
         free(first.bytes);
         free(second.bytes);
     }
+    for (size_t i = 0; i < sizeof NOT_COMPARED / sizeof *NOT_COMPARED; i++) {
+        struct text first = text_of(NOT_COMPARED[i].first), second = text_of(NOT_COMPARED[i].second);
+        are_not_compared(first, second, NOT_COMPARED[i].want);
+        free(first.bytes);
+        free(second.bytes);
+    }
+    large_objects_are_compared();
+    null_is_empty();
     struct text owner = text_of(OWNER);
     assert(numbers_are_refused_memory(owner) > 6);
     free(owner.bytes);
