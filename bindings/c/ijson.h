@@ -7,6 +7,7 @@
  * - a length is the number of bytes at the pointer before it, which may be null if the length is 0; a result's pointer is not null;
  * - the output and the result are writable, and apart from each other and from the texts;
  * - nothing else, as another thread or a signal handler, changes a text or uses the output or the result during the call;
+ * - the stack has 64 KiB left;
  * - malloc, realloc and free are one allocator, which aligns a block to each power of two up to 16 that divides its size;
  * - the call is neither in a signal handler nor in a forked child of a process with threads.
  */
