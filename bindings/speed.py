@@ -1,9 +1,10 @@
 #!/usr/bin/env python3
 """Times the functions from Python next to `json`, and `orjson` if it is installed, on a file of bench/generate.py.
 
-usage: bindings/speed.py [--size BYTES] [--file NAME] [--turns N]
+usage: bindings/speed.py [--size BYTES] [--file NAME] [--turns N] [--keys N]
 
-Prints the minimum of some turns, in seconds of processor time. `json` and `orjson` round fractions.
+Prints the minimum of some turns, in seconds of processor time. `json` and `orjson` round fractions. --keys times `equal` and `merge_patch`
+instead, on an object of N keys of one hash, as tests/fuzz/chosen-keys makes them, and on one of ordinary keys of the same length.
 """
 
 import sys
@@ -11,6 +12,7 @@ import sys
 sys.dont_write_bytecode = True
 
 import argparse
+import importlib.machinery
 import importlib.util
 import json
 import pathlib
@@ -44,7 +46,22 @@ def rows(text, other):
         canonical["orjson"] = lambda: orjson.dumps(orjson.loads(text), option=orjson.OPT_SORT_KEYS)
         equal["orjson"] = lambda: orjson.loads(text) == orjson.loads(other)
     return {"compact": compact, "canonical, sorted keys": canonical, "equal": equal, "hash": {"ijson": lambda: ijson_proved.hash(text)},
-            "get": {"ijson": lambda: ijson_proved.get(text, "/0")}}
+            "get": {"ijson": lambda: ijson_proved.get(text, "/0")},
+            "merge_patch": {"ijson": lambda: ijson_proved.merge_patch('{"rows":0,"n":1}', b'{"n":null,"rows":' + text + b"}")}}
+
+
+def key_rows(count):
+    """Objects of chosen and of ordinary keys, compared and patched in the reverse order of members."""
+    loader = importlib.machinery.SourceFileLoader("chosen_keys", str(BINDINGS.parent / "tests" / "fuzz" / "chosen-keys"))
+    chosen_keys = importlib.util.module_from_spec(importlib.util.spec_from_loader(loader.name, loader))
+    loader.exec_module(chosen_keys)
+    chosen = chosen_keys.keys_of_one_hash(count)
+    for kind, keys in ("chosen", chosen), ("ordinary", chosen_keys.ordinary_keys(count, len(chosen[0]))):
+        one, nulls = ({"value": dict.fromkeys(keys, value)} for value in (1, None))
+        one, turned, nulls = json.dumps(one), json.dumps({"value": dict.fromkeys(reversed(keys), 1)}), json.dumps(nulls)
+        yield f"{kind} keys, equal", lambda: ijson_proved.equal(one, turned)
+        yield f"{kind} keys, merge_patch", lambda: ijson_proved.merge_patch(one, turned)
+        yield f"{kind} keys, merge_patch with nulls", lambda: ijson_proved.merge_patch(one, nulls)
 
 
 def seconds(call, turns):
@@ -61,7 +78,12 @@ def main():
     parser.add_argument("--size", type=int, default=10_000_000, help="approximate bytes of the file (10,000,000)")
     parser.add_argument("--file", default="objects", help="a file of bench/generate.py (objects)")
     parser.add_argument("--turns", type=int, default=5, help="of each call (5)")
+    parser.add_argument("--keys", type=int, metavar="N", help="time objects of N chosen keys instead")
     options = parser.parse_args()
+    if options.keys:
+        for name, call in key_rows(options.keys):
+            print(f"{name}: {seconds(call, options.turns):.2f} s", flush=True)
+        return
     with tempfile.TemporaryDirectory() as work:
         subprocess.run([sys.executable, BINDINGS.parent / "bench/generate.py", work, str(options.size), options.file], check=True)
         text = pathlib.Path(work, f"{options.file}.json").read_bytes()
