@@ -82,7 +82,7 @@ def main():
     options = parser.parse_args()
     if options.keys:
         for name, call in key_rows(options.keys):
-            print(f"{name}: {seconds(call, options.turns):.2f} s", flush=True)
+            print(f"{name}: {seconds(call, options.turns):.3f} s", flush=True)
         return
     with tempfile.TemporaryDirectory() as work:
         subprocess.run([sys.executable, BINDINGS.parent / "bench/generate.py", work, str(options.size), options.file], check=True)
