@@ -4,8 +4,8 @@ pub mod CountedSteps
 pub mod Entries
 pub mod EntryOrder
 pub mod FirstPlaced
-pub mod HomeOrder
 pub mod Holds
+pub mod Homes
 pub mod Insertion
 pub mod IsPlaced
 pub mod KeptHash

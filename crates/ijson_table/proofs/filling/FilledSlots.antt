@@ -11,7 +11,7 @@ use Rattle.ijson_table.specs.Crowd.{distance}
 use Rattle.ijson_table.specs.Slots.{after, displacement, times}
 use Rattle.ijson_table.specs.private.Entries.{AreEntries}
 use Rattle.ijson_table.specs.private.Holds.{one_if}
-use Rattle.ijson_table.specs.private.HomeOrder.{home_in, home_of_entry}
+use Rattle.ijson_table.specs.private.Homes.{home_in, home_of_entry}
 use Rattle.ijson_table.specs.private.Insertion.{IsTableOf}
 use Rattle.ijson_table.specs.private.SlotHashes.{blank, position_in, positions, HasHash, HaveHashes}
 use Rattle.ijson_table.proofs.arithmetic.Circular.{after-below, after-injective}

@@ -8,7 +8,7 @@ use Rattle.ijson_table.specs.declared.slot.Slot.{Slot}
 use Rattle.ijson_table.specs.Crowd.{distance}
 use Rattle.ijson_table.specs.Slots.{after}
 use Rattle.ijson_table.specs.private.EntryOrder.{entry_before}
-use Rattle.ijson_table.specs.private.HomeOrder.{home_of_entry, next_after, passing}
+use Rattle.ijson_table.specs.private.Homes.{home_of_entry, next_after, passing}
 use Rattle.ijson_table.specs.private.SlotHashes.{blank}
 use Rattle.ijson_table.specs.private.Sorting.{IsSortedBy}
 use Rattle.ijson_table.proofs.firsts.KeyTies.{homes_ascend, sorted_at}

@@ -5,7 +5,7 @@ ghost use Rattle.ijson_table.specs.Growth.{capacity_limit};
 ghost use Rattle.ijson_table.specs.Store.{keys_of};
 ghost use Rattle.ijson_table.specs.private.Entries.{AreEntries};
 ghost use Rattle.ijson_table.specs.private.EntryOrder.{entry_before};
-ghost use Rattle.ijson_table.specs.private.HomeOrder.{passing};
+ghost use Rattle.ijson_table.specs.private.Homes.{passing};
 ghost use Rattle.ijson_table.specs.private.Insertion.{IsTableOf};
 ghost use Rattle.ijson_table.specs.private.Sorting.{IsSortedBy};
 

@@ -1,5 +1,5 @@
 use Rattle.std.proofs.Common.{◌≡◌}
-use Rattle.ijson_table.specs.private.HomeOrder.{home_of_entry, next_after, passing}
+use Rattle.ijson_table.specs.private.Homes.{home_of_entry, next_after, passing}
 use Rattle.ijson_table.proofs.filling.FilledSlots.{Filled}
 use Rattle.ijson_table.proofs.filling.Spots.{place}
 use Rattle.ijson_table.proofs.index.fill.fill.Given as goal
