@@ -76,13 +76,9 @@ static FRONTS: [(&str, usize); 13] = [
 
 /// Asserts the length of the leading number of a text, and that its bytes alone spell the number.
 fn has_front(rt: &impl Abort, alloc: Global, text: &str, want: usize) {
-    let (number, length) =
-        granted!(rt; ReadNumberError::Memory; INumber::read_front(alloc, text));
+    let (number, length) = granted!(rt; ReadNumberError::Memory; INumber::read_front(alloc, text));
     let whole = spelled(rt, alloc, text.get(..length).expect(rt, text));
-    assert!(*rt;
-        length == want && number.form() == whole.form(),
-        "{text}"
-    );
+    assert!(*rt; length == want && number.form() == whole.form(), "{text}");
     drop(number);
     drop(whole);
 }
