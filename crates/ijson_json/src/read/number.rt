@@ -25,7 +25,8 @@ fn in_number(byte: u8) -> bool
 fn stops(text: &str) -> bool
     ensures { IsTrue result ↔ Stops text.now }
 {
-    text.is_empty() || !in_number(text.as_bytes()[0])
+    // most numbers are followed by a comma
+    text.is_empty() || text.as_bytes()[0] == b',' || !in_number(text.as_bytes()[0])
 }
 
 /// Reads the leading number. One beyond the limit fails at its first byte, whatever follows it.
