@@ -9,5 +9,6 @@ returns-then-self-gt-NARROW_SLOTS-clause-kept c = sym (kept-wide c.args.self.cou
 pub returns-else-self-gt-NARROW_SLOTS-clause-kept : goal.returns-else-self-gt-NARROW_SLOTS-clause-kept
 returns-else-self-gt-NARROW_SLOTS-clause-kept c =
     let n = c.args.self.count in
-    ap₂ (λ q r. q % 256 * n + r) c.divided-quotient.ensures.quotient c.divided-quotient.ensures.left
-    ∙ (by_more c.args.hash n c.args.self.some ∙ sym (kept-narrow n c.args.hash c.if-self-gt-NARROW_SLOTS.false))
+    let kept = ap₂ (λ q r. q % 256 * n + r) c.divided-quotient.ensures.quotient c.divided-quotient.ensures.left
+    ∙ (by_more c.args.hash n c.args.self.some ∙ sym (kept-narrow n c.args.hash c.if-self-gt-NARROW_SLOTS.false)) in
+    cc kept
