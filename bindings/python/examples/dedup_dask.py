@@ -10,46 +10,58 @@ import argparse
 import hashlib
 import sys
 
-import dask.bag
+import dask
 from dask.bytes import read_bytes
 from distributed import Client, LocalCluster
 
 import ijson_proved
 
-
-def entries(number, block):
-    """The lines of a block with their keys and places: one entry for each set of equal lines, the first."""
-    first = {}
-    for index, line in enumerate(block.removesuffix(b"\n").split(b"\n") if block else []):
-        first.setdefault(hashlib.blake2b(ijson_proved.canonical(line).encode(), digest_size=32).digest(), (number, index, line))
-    return list(first.items())
+KEY = 32
 
 
-def first_of(left, right):
-    """The entry whose line comes first."""
-    return min(left, right, key=lambda entry: entry[1])
+def lines_of(block):
+    """The lines of a block."""
+    return block.removesuffix(b"\n").split(b"\n") if block else []
+
+
+def keys(block):
+    """The keys of the lines of a block, one after the other: equal lines have equal keys."""
+    return b"".join(hashlib.blake2b(ijson_proved.canonical(line).encode(), digest_size=KEY).digest() for line in lines_of(block))
+
+
+def firsts(keys_of_blocks):
+    """For each block, 1 for each line whose key no earlier line has, else 0."""
+    seen, found = set(), []
+    for block in keys_of_blocks:
+        each = [block[at : at + KEY] for at in range(0, len(block), KEY)]
+        found.append(bytes(key not in seen and not seen.add(key) for key in each))
+    return found
+
+
+def chosen(block, are_first):
+    """The lines of a block that are the first with their keys."""
+    return b"".join(line + b"\n" for line, is_first in zip(lines_of(block), are_first) if is_first)
 
 
 def first_lines(files, block_size):
-    """The first line of each set of equal lines, in the order of the files."""
-    _, blocks = read_bytes(files, delimiter=b"\n", blocksize=block_size, sample=False)
-    read = dask.delayed(entries)
-    bag = dask.bag.from_delayed([read(number, block) for number, block in enumerate(block for file in blocks for block in file)])
-    found = bag.foldby(lambda entry: entry[0], first_of, combine=first_of).compute()
-    return [line for _, _, line in sorted(entry[1] for _, entry in found)]
+    """The first line of each set of equal lines, in the order of the files: a text for each block. Only keys meet on one machine."""
+    _, files = read_bytes(files, delimiter=b"\n", blocksize=block_size, sample=False)
+    blocks = [block for file in files for block in file]
+    are_first = dask.delayed(firsts, nout=len(blocks))([dask.delayed(keys)(block) for block in blocks])
+    return dask.compute(*(dask.delayed(chosen)(block, are_first[at]) for at, block in enumerate(blocks)))
 
 
 def main():
     parser = argparse.ArgumentParser(description=__doc__.splitlines()[0])
     parser.add_argument("--scheduler", metavar="ADDRESS", help="of a cluster, as tcp://host:8786")
     parser.add_argument("--workers", type=int, metavar="N", help="processes without --scheduler (by the processors)")
-    parser.add_argument("--block", type=int, default=64_000_000, metavar="BYTES", help="to read at a time (64,000,000)")
+    parser.add_argument("--block", type=int, default=16_000_000, metavar="BYTES", help="to read at a time (16,000,000)")
     parser.add_argument("files", nargs="+", metavar="FILE")
     options = parser.parse_args()
     cluster = options.scheduler or LocalCluster(n_workers=options.workers, threads_per_worker=1, dashboard_address=None)
     with Client(cluster):
-        for line in first_lines(options.files, options.block):
-            sys.stdout.buffer.write(line + b"\n")
+        for text in first_lines(options.files, options.block):
+            sys.stdout.buffer.write(text)
 
 
 if __name__ == "__main__":
