@@ -1,4 +1,4 @@
-"""The library as packages: a prefix for C programs, and a wheel for Python."""
+"""The library as packages: a prefix for C programs, packages for Debian, and a wheel for Python."""
 
 import pathlib
 import re
@@ -15,10 +15,20 @@ libdir=${{prefix}}/lib
 includedir=${{prefix}}/include
 
 Name: ijson
-Description: JSON with exact decimals, by functions that are proved
+Description: {summary}
 Version: {version}
 Libs: -L${{libdir}} -lijson
 Cflags: -I${{includedir}}
+"""
+SUMMARY = "JSON with exact decimals, by functions that are proved"
+CONTROL = """\
+Package: {name}
+Version: {version}
+Architecture: amd64
+Maintainer: The ijson developers
+Section: {section}
+Depends: {depends}
+Description: {summary}
 """
 
 
@@ -31,10 +41,11 @@ def version():
     return re.search(r'#define IJSON_VERSION "(.*)"', (BINDINGS / "c" / "ijson.h").read_text())[1]
 
 
-def install(prefix):
-    """Copies the header, the libraries and a file for pkg-config below a prefix."""
+def install(prefix, root=None):
+    """Copies the header, the libraries and a file for pkg-config below a prefix, or below its copy in the folder `root`."""
     prefix = pathlib.Path(prefix).resolve()
-    include, libraries, config = prefix / "include", prefix / "lib", prefix / "lib" / "pkgconfig"
+    top = root / prefix.relative_to("/") if root else prefix
+    include, libraries, config = top / "include", top / "lib", top / "lib" / "pkgconfig"
     for folder in include, libraries, config:
         folder.mkdir(parents=True, exist_ok=True)
     shutil.copy(OUT / "ijson.h", include)
@@ -45,7 +56,39 @@ def install(prefix):
     for link in "libijson.so.0", "libijson.so":
         (libraries / link).unlink(missing_ok=True)
         (libraries / link).symlink_to(real)
-    (config / "ijson.pc").write_text(PKG_CONFIG.format(prefix=prefix, version=version()))
+    (config / "ijson.pc").write_text(PKG_CONFIG.format(prefix=prefix, version=version(), summary=SUMMARY))
+
+
+def debian():
+    """Makes two packages for Debian in out/, of the shared library and of what compiles programs with it, and returns their paths."""
+    if not shutil.which("dpkg-deb"):
+        raise Missing("dpkg-deb is missing")
+    with tempfile.TemporaryDirectory() as work:
+        library, development = pathlib.Path(work, "libijson0"), pathlib.Path(work, "libijson-dev")
+        install("/usr", development)
+        (library / "usr/lib").mkdir(parents=True)
+        for path in development.glob("usr/lib/libijson.so.*"):
+            shutil.move(path, library / "usr/lib")
+        return [
+            package(library, "libs", "libc6", triggers="activate-noawait ldconfig\n"),
+            package(development, "libdevel", f"libijson0 (= {version()})"),
+        ]
+
+
+def package(folder, section, depends, triggers=""):
+    """Makes a package for Debian of a folder with the package's name, which has the files below `usr`."""
+    control, licenses = folder / "DEBIAN", folder / "usr/share/doc" / folder.name
+    control.mkdir()
+    control.joinpath("control").write_text(
+        CONTROL.format(name=folder.name, version=version(), section=section, depends=depends, summary=SUMMARY)
+    )
+    control.joinpath("triggers").write_text(triggers)
+    licenses.mkdir(parents=True)
+    for license in TOP.glob("LICENSE-*"):
+        shutil.copy(license, licenses)
+    made = OUT / f"{folder.name}_{version()}_amd64.deb"
+    run(["dpkg-deb", "--root-owner-group", "--build", folder, made], OUT, stdout=subprocess.DEVNULL)
+    return made
 
 
 def python_with_wheel():
