@@ -1,6 +1,10 @@
+#!/usr/bin/env python3
 """Assembles a workspace of Rattle with the crate `ijson_c` and the crates of the repository that it uses.
 
-The files of `ijson_c/` have the suffix `.txt`, since the gate wants every `.rt` and `.antt` file in a crate that crates.txt lists.
+usage: bindings/workspace.py FOLDER
+
+The command adds `ijson_c`, without its must-fail edits, to a workspace that has the other crates. Its files have the suffix `.txt` in `ijson_c/`,
+since the gate wants every `.rt` and `.antt` file in a crate that crates.txt lists.
 """
 
 import contextlib
@@ -21,6 +25,7 @@ OUT = BINDINGS / "out"
 KIT = pathlib.Path(subprocess.run(["rt", "doc"], capture_output=True, text=True, check=True).stdout.strip()).parent
 CRATE = "ijson_c"
 USES = ["simdutf8", "ijson_string", "ijson_table", "ijson_value", "ijson_number", "ijson_json", "ijson_extra"]
+LISTED = f"{CRATE} staticlib: {' '.join(USES)}"
 
 
 def run(command, folder, **options):
@@ -28,9 +33,8 @@ def run(command, folder, **options):
     subprocess.run(command, cwd=folder, check=True, **options)
 
 
-def assemble(work):
-    """Writes the workspace into a folder, and returns the folder of ijson_c."""
-    copy_crates(work, library_crates(*USES), f"{CRATE} staticlib: {' '.join(USES)}")
+def write_crate(work):
+    """Writes the files of ijson_c into a workspace, and returns its folder."""
     crate = work / "crates" / CRATE
     for path in sorted((BINDINGS / CRATE).rglob("*")):
         if path.is_file():
@@ -38,6 +42,12 @@ def assemble(work):
             target.parent.mkdir(parents=True, exist_ok=True)
             shutil.copy(path, target)
     return crate
+
+
+def assemble(work):
+    """Writes the workspace into a folder, and returns the folder of ijson_c."""
+    copy_crates(work, library_crates(*USES), LISTED)
+    return write_crate(work)
 
 
 def exported():
@@ -71,3 +81,9 @@ def workspace(folder=None):
     run(["rt", "lib"], TOP / "crates" / "ijson_extra")
     with tempfile.TemporaryDirectory() if folder is None else contextlib.nullcontext(folder) as work:
         yield assemble(pathlib.Path(work).resolve())
+
+
+if __name__ == "__main__":
+    shutil.rmtree(write_crate(pathlib.Path(sys.argv[1])) / "must-fail")
+    with open(f"{sys.argv[1]}/crates.txt", "a", encoding="utf-8") as listed:
+        print(LISTED, file=listed)
