@@ -1,5 +1,6 @@
 /* Counts the allocations of one run, and fails one of them.
  *
+ * So no type needs a parameter for the sake of tests, and without this library the marks of a test do nothing.
  * Loaded before the C library (LD_PRELOAD), it returns null for the allocation with the number in REFUSE_AT, from 1 (none if it is unset
  * or 0). A test counts the allocations of a call between two marks, which are allocations of certain sizes and are not counted themselves:
  * `begin_count` and `end_count` in crates/ijson/src/tests/support.rt. At the end of the run it writes to the file in REFUSE_REPORT the number
