@@ -1,5 +1,22 @@
 #!/usr/bin/env python3
-"""generate.py FOLDER SIZE NAME..: writes the named files, about SIZE bytes each (those of common_kinds.py less), into the folder; the same at each run."""
+"""generate.py FOLDER SIZE NAME..: writes the named files, about SIZE bytes each (those of common_kinds.py less), into the folder; the same at each run.
+
+integers         one array of integers of 7 to 63 bits
+fractions        one array of numbers with 2, 6 or 13 fraction digits
+objects          records of 4 to 10 members: numbers, strings, words
+strings          one array of strings of 1 to 11 words, some with escapes, some beyond ASCII
+mixed            documents of objects, arrays and scalars, up to 40 deep
+one_object       one object of 300,000 keys of up to 17 bytes
+coordinates      2.0 MB: a map of polygons, numbers of 15 to 17 digits, no white space
+catalogue        1.1 MB: pretty printed records with ids of nine digits and many nulls
+messages         0.6 MB: pretty printed messages in Japanese, each of 14 members and an author of 22
+numbers          numbers of all kinds with exponents
+arrays           nested arrays
+long_keys        records of 20 keys of 40 bytes
+probabilities    numbers from 0 to 1 with 16 or 17 digits
+identifiers      strings of 36 bytes that occur once
+points           objects of two integers
+"""
 
 import sys
 

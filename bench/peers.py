@@ -1,4 +1,7 @@
-"""Builds the programs to time, and keeps them in out/. Each function returns a program's path, or None if it could not be built."""
+"""Builds the programs to time, and keeps them in out/. Each function returns a program's path, or None if it could not be built.
+
+Sources of Rattle are named main.rt.txt, so that the gate does not take them for crates.
+"""
 
 import hashlib
 import pathlib
