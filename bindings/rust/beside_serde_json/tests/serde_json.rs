@@ -1,4 +1,6 @@
-//! Random texts, each with the answer that `serde_json` gives.
+//! Random texts, each with the answer that `serde_json` gives: `compact`, `get` and `merge_patch` on 20,000 texts each, and `equal`, `canonical` and
+//! `hash` on 20,000 pairs of objects, where results of the last two are compared with each other only. Which changed texts are accepted is compared
+//! too, except for numbers out of range.
 use beside_serde_json::Random;
 use ijson_proved::{canonical, compact, equal, get, hash, merge_patch, Error};
 use serde_json::{from_str, Map, Value};
