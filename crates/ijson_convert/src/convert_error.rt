@@ -12,7 +12,7 @@ use thiserror::Error;
 #[derive(Clone, Copy, PartialEq, Eq, Debug, Drop, Error)]
 pub enum ConvertError {
     /// The JSON value is of another kind than the Rust type.
-    #[error("a value of another kind")]
+    #[error("the value is of another kind")]
     WrongKind,
     /// The number is not whole, or out of the range of the integer type.
     #[error("not a whole number in the range of the type")]

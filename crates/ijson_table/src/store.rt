@@ -15,10 +15,10 @@ use thiserror::Error;
 #[derive(Clone, Copy, Debug, PartialEq, Eq, Drop, Error)]
 pub enum ReserveError {
     /// An allocation failed.
-    #[error("a request for memory was refused")]
+    #[error("out of memory")]
     Memory,
     /// The new capacity would exceed 2^56.
-    #[error("the capacity would pass 2^56")]
+    #[error("the capacity would exceed 2^56")]
     TooLarge,
 }
 
@@ -38,7 +38,7 @@ impl From<AllocError> for ReserveError {
 ///
 /// The store is unchanged.
 #[derive(Debug, Drop, Error)]
-#[error("the store did not grow for one more pair: {why}")]
+#[error("no capacity for the entry: {why}")]
 pub struct RefusedPair<V> {
     /// The given key.
     pub key: IString,

@@ -61,7 +61,7 @@ impl Model for IArray {
 ///
 /// This element changed nothing. After `extend`, the elements before it are in the array.
 #[derive(Debug, Drop, Error)]
-#[error("no memory for one more item")]
+#[error("no memory for the element")]
 pub struct Refused(pub IValue);
 
 /// Converts to `Memory` and drops the element.

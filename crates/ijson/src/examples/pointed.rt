@@ -75,7 +75,7 @@ fn pointed<S: BuildHasher>(
 static POINTED: [(&str, &str, &str); 8] = [
     ("{\"server\":{\"port\":8080}}", "/server/port", "8080"),
     ("[1,[2.50]]", "/1", "[2.5]"),
-    ("{}", "/a", "nothing is at the JSON Pointer"),
+    ("{}", "/a", "the JSON Pointer refers to no value"),
     ("{}", "a", "not a JSON Pointer"),
     ("{\n\"b\": 01}", "", "syntax at line 2, column 7"),
     ("[\"\u{e9}\" 1]", "", "syntax at line 1, column 6"),

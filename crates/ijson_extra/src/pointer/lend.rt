@@ -23,7 +23,7 @@ use thiserror::Error;
 #[derive(Clone, Copy, PartialEq, Eq, Debug, Drop, Error)]
 pub enum Unresolved {
     /// The pointer refers to nothing in the value.
-    #[error("nothing is at the JSON Pointer")]
+    #[error("the JSON Pointer refers to no value")]
     Nothing,
     /// The text is not a JSON Pointer.
     #[error("not a JSON Pointer")]

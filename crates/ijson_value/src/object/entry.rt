@@ -65,7 +65,7 @@ impl<'a, K: Text + Drop> Drop for VacantEntry<'a, K> {
 
 /// The key that an object could not reserve capacity for, and why. The object is as it was.
 #[derive(Debug, Drop, Error)]
-#[error("the object did not grow for one more key: {why}")]
+#[error("no capacity for the key: {why}")]
 pub struct RefusedKey {
     /// The key given.
     pub key: IString,

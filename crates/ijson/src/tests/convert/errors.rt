@@ -11,7 +11,7 @@ use crate::value::IValue;
 /// Errors of a conversion, the message and the debug output of each.
 #[rattlefmt::skip]
 static OF_CONVERSIONS: [(ConvertError, &str, &str); 4] = [
-    (ConvertError::WrongKind, "a value of another kind", "WrongKind"),
+    (ConvertError::WrongKind, "the value is of another kind", "WrongKind"),
     (ConvertError::OutOfRange, "not a whole number in the range of the type", "OutOfRange"),
     (ConvertError::Number, "a number that is neither an i64 nor a u64", "Number"),
     (ConvertError::Memory, "out of memory", "Memory"),
@@ -20,7 +20,7 @@ static OF_CONVERSIONS: [(ConvertError, &str, &str); 4] = [
 /// Errors of a pointer, the message and the debug output of each.
 #[rattlefmt::skip]
 static OF_POINTERS: [(Unresolved, &str, &str); 2] = [
-    (Unresolved::Nothing, "nothing is at the JSON Pointer", "Nothing"),
+    (Unresolved::Nothing, "the JSON Pointer refers to no value", "Nothing"),
     (Unresolved::NoPointer(PointerError::Syntax), "not a JSON Pointer", "NoPointer(Syntax)"),
 ];
 
@@ -35,21 +35,21 @@ fn faults_become_errors(rt: HostRuntime) {
     }
     let text = "not a JSON Pointer";
     is_told(&rt, alloc, PointerError::Syntax, text, "Syntax");
-    let text = "a request for memory was refused";
+    let text = "out of memory";
     is_told(&rt, alloc, ReserveError::Memory, text, "Memory");
 }
 
 #[test]
 fn refusals_become_errors(rt: HostRuntime) {
     let alloc = rt.alloc();
-    let (text, shown) = ("no memory for one more item", "Refused(true)");
+    let (text, shown) = ("no memory for the element", "Refused(true)");
     is_told(&rt, alloc, Refused(IValue::TRUE), text, shown);
     let (key_back, why) = (key(&rt, alloc, "k"), ReserveError::Memory);
-    let text = "the object did not grow for one more key: a request for memory was refused";
+    let text = "no capacity for the key: out of memory";
     let shown = "RefusedKey { key: \"k\", why: Memory }";
     is_told(&rt, alloc, RefusedKey { key: key_back, why }, text, shown);
     let (key, value, why) = (key(&rt, alloc, "k"), IValue::TRUE, ReserveError::TooLarge);
-    let text = "the store did not grow for one more pair: the capacity would pass 2^56";
+    let text = "no capacity for the entry: the capacity would exceed 2^56";
     let shown = "RefusedPair { key: \"k\", value: true, why: TooLarge }";
     is_told(&rt, alloc, RefusedPair { key, value, why }, text, shown);
 }

@@ -80,11 +80,11 @@ fn tells<E: Debug + Display + Drop>(rt: &impl Abort, alloc: Global, error: E, wa
 static RETURNED: [(ReserveError, &str); 2] = [
     (
         ReserveError::Memory,
-        r#"the object was not created: a request for memory was refused|RefusedPairs { pairs: [("a", 1), ("b", 2), ("a", 3)], why: Memory }"#,
+        r#"the object was not created: out of memory|RefusedPairs { pairs: [("a", 1), ("b", 2), ("a", 3)], why: Memory }"#,
     ),
     (
         ReserveError::TooLarge,
-        r#"the object was not created: the capacity would pass 2^56|RefusedPairs { pairs: [("a", 1), ("b", 2), ("a", 3)], why: TooLarge }"#,
+        r#"the object was not created: the capacity would exceed 2^56|RefusedPairs { pairs: [("a", 1), ("b", 2), ("a", 3)], why: TooLarge }"#,
     ),
 ];
 

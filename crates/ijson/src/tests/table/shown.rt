@@ -15,13 +15,13 @@ fn tells<T: Debug + Display>(rt: &impl Host, error: &T, want: &str) {
 static REASONS: [(ReserveError, &str, &str); 2] = [
     (
         ReserveError::Memory,
-        "a request for memory was refused|Memory",
-        "the store did not grow for one more pair: a request for memory was refused|RefusedPair { key: \"a\", value: 1, why: Memory }",
+        "out of memory|Memory",
+        "no capacity for the entry: out of memory|RefusedPair { key: \"a\", value: 1, why: Memory }",
     ),
     (
         ReserveError::TooLarge,
-        "the capacity would pass 2^56|TooLarge",
-        "the store did not grow for one more pair: the capacity would pass 2^56|RefusedPair { key: \"a\", value: 1, why: TooLarge }",
+        "the capacity would exceed 2^56|TooLarge",
+        "no capacity for the entry: the capacity would exceed 2^56|RefusedPair { key: \"a\", value: 1, why: TooLarge }",
     ),
 ];
 
