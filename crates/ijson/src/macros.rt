@@ -2,9 +2,14 @@
 
 /// Creates a value from a literal, as a `Result<IValue, ConvertError>`.
 ///
-/// A literal is `null`, a list in brackets, an object in braces, or an expression whose type implements `ToIValue`, like a value or a part
-/// of one, which is copied; it may be nested. There are no floats. A key is an expression of type `&str`, and a later equal key replaces the
-/// value. A trailing comma is allowed; a misplaced token does not compile. The capacity grows as by `push` and `insert`.
+/// A literal is one of:
+/// - `null`
+/// - a list in brackets, or an object in braces, of literals
+/// - an expression whose type implements `ToIValue`, like a value or a part of it; it is copied
+///
+/// There are no floats. A key is a `&str` expression; a later equal key replaces the value. A
+/// trailing comma is allowed; a misplaced token does not compile. Capacity grows as by `push` and
+/// `insert`.
 ///
 /// ```
 /// let value = ijson!(alloc, &mut cache; {"name": "ijson", "sizes": [1u8, 2u8, null], "nested": {"deep": true}})?;

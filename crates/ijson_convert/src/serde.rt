@@ -20,7 +20,7 @@ use serde_json::{Map, Number, Value};
 use std::alloc::Global;
 use std::hash::BuildHasher;
 
-/// Converts a number of `serde_json` to one without a fraction point. It does not allocate.
+/// Converts a `serde_json` integer to a number without a decimal point. Does not allocate.
 ///
 /// # Errors
 ///

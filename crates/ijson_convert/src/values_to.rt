@@ -61,7 +61,7 @@ fn copy_items<S: BuildHasher>(
     Ok(array)
 }
 
-/// Returns an object of copies of the entries, in order, whose capacity is their count.
+/// Returns a copy of `object`, in the same order and without spare capacity.
 #[cycle(copy)]
 fn copy_pairs<S: BuildHasher>(
     alloc: Global,

@@ -121,7 +121,7 @@ pub fn from_json<S: BuildHasher>(
         → MatchResult result (λ value. value.tree ≡ t) (λ error. error ≡ JsonError.Memory) }
     // The cache only gains long strings that a slice of the text spells.
     ensures cache { AddsOnlyRead text.now cache.old cache.new }
-    // It contains each long string and key of the value.
+    // The cache has the value's long strings and keys.
     ensures shared { IfOk result (λ value. AreShared cache.new value.tree) }
 {
     read_text(alloc, cache, text)

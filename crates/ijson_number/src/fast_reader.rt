@@ -191,7 +191,7 @@ fn with_exponent(front: Front, rest: &[u8]) -> Option<Front>
 {
     let (power, length) = read_exponent(rest)?;
     let mantissa = front.significand;
-    // stripping the zeros of a zero takes a step for each power of ten below 0
+    // stripping a zero with the exponent -n would take n steps
     let exponent = if mantissa.magnitude == 0 {
         0
     } else {

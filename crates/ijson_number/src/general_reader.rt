@@ -1,4 +1,4 @@
-//! Reads a leading number of any length into its parts, or finds the first byte that no number continues with.
+//! Reads a leading number of any length, or finds the first byte that cannot continue a number.
 ghost use Rattle.std.specs.Prelude.{◌≡◌, ◌↔◌, ◌++◌, ◌∷◌, ◌<◌, ◌≤◌, ◌-◌, ◌+◌, ◌^◌, min, nat_abs, ℕ, List};
 ghost use Rattle.std.specs.Prelude.{IfOk, IfErr, IfSome, IfNone, IsTrue, replicate, length};
 ghost use Rattle.std.specs.Int.Digits.{number_from_digits_after};
@@ -128,7 +128,7 @@ pub struct Spelling<'a> {
 
 /// Reads the leading number into its parts, and returns the text after it.
 ///
-/// `Err` with the text that no number continues with, if the bytes before it are no number.
+/// Returns `Err` with the text that cannot continue a number, if the bytes before it are not one.
 #[inline(always)]
 pub fn read_spelling(text: &[u8]) -> Result<(Spelling<'_>, &[u8]), &[u8]>
     ensures ok { IfOk result (λ r. IsSpellingRead text.now r.0 r.1.now) }

@@ -58,7 +58,7 @@ impl Default for INumber {
     }
 }
 
-/// The integer, without the fraction point. It does not allocate.
+/// Converts an integer to a number without a decimal point. Does not allocate.
 impl From<i64> for INumber {
     ghost from_gives = { λ z n. IsInteger n.decimal z };
 
@@ -69,7 +69,7 @@ impl From<i64> for INumber {
     }
 }
 
-/// The integer, without the fraction point. It does not allocate.
+/// Converts an integer to a number without a decimal point. Does not allocate.
 impl From<u64> for INumber {
     ghost from_gives = { λ value n. IsInteger n.decimal (pos value) };
 
@@ -80,7 +80,7 @@ impl From<u64> for INumber {
     }
 }
 
-/// The integer, without the fraction point. It does not allocate.
+/// Converts an integer to a number without a decimal point. Does not allocate.
 impl From<i8> for INumber {
     ghost from_gives = { λ value n. IsInteger n.decimal value };
 
@@ -89,7 +89,7 @@ impl From<i8> for INumber {
     }
 }
 
-/// The integer, without the fraction point. It does not allocate.
+/// Converts an integer to a number without a decimal point. Does not allocate.
 impl From<i16> for INumber {
     ghost from_gives = { λ value n. IsInteger n.decimal value };
 
@@ -98,7 +98,7 @@ impl From<i16> for INumber {
     }
 }
 
-/// The integer, without the fraction point. It does not allocate.
+/// Converts an integer to a number without a decimal point. Does not allocate.
 impl From<i32> for INumber {
     ghost from_gives = { λ value n. IsInteger n.decimal value };
 
@@ -107,7 +107,7 @@ impl From<i32> for INumber {
     }
 }
 
-/// The integer, without the fraction point. It does not allocate.
+/// Converts an integer to a number without a decimal point. Does not allocate.
 impl From<isize> for INumber {
     ghost from_gives = { λ value n. IsInteger n.decimal value };
 
@@ -116,7 +116,7 @@ impl From<isize> for INumber {
     }
 }
 
-/// The integer, without the fraction point. It does not allocate.
+/// Converts an integer to a number without a decimal point. Does not allocate.
 impl From<u8> for INumber {
     ghost from_gives = { λ value n. IsInteger n.decimal (pos value) };
 
@@ -125,7 +125,7 @@ impl From<u8> for INumber {
     }
 }
 
-/// The integer, without the fraction point. It does not allocate.
+/// Converts an integer to a number without a decimal point. Does not allocate.
 impl From<u16> for INumber {
     ghost from_gives = { λ value n. IsInteger n.decimal (pos value) };
 
@@ -134,7 +134,7 @@ impl From<u16> for INumber {
     }
 }
 
-/// The integer, without the fraction point. It does not allocate.
+/// Converts an integer to a number without a decimal point. Does not allocate.
 impl From<u32> for INumber {
     ghost from_gives = { λ value n. IsInteger n.decimal (pos value) };
 
@@ -143,7 +143,7 @@ impl From<u32> for INumber {
     }
 }
 
-/// The integer, without the fraction point. It does not allocate.
+/// Converts an integer to a number without a decimal point. Does not allocate.
 impl From<usize> for INumber {
     ghost from_gives = { λ value n. IsInteger n.decimal (pos value) };
 
@@ -178,7 +178,7 @@ fn scaled(digits: &[u8], zeros: usize) -> u128
 impl StrippedNumber<'_> {
     ghost use Rattle.ijson_number.specs.private.StrippedNumber.{decimal_of};
 
-    /// Returns the mantissa times `10^zeros`, if its absolute value is below 10^20.
+    /// Returns the significand times `10^zeros`, if the product's absolute value is below 10^20.
     fn mantissa_with(&self, zeros: usize) -> Option<i128>
         ensures some { IfSome result (λ m. m ≡ (decimal_of self.now).mantissa *ℤ pos (10 ^ zeros)) }
         ensures small { IfSome result (λ m. nat_abs m < 10 ^ 20) }

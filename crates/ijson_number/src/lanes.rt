@@ -169,7 +169,7 @@ pub fn zeros_in_front(lanes: u8x16) -> usize
     (others.trailing_zeros() as usize).min(LANES - 1)
 }
 
-/// Moves the lanes from `start` on to the start of the vector, before zeros.
+/// Removes the lanes before `start` and fills the end with zeros.
 #[inline(always)]
 fn front_of(lanes: u8x16, start: usize) -> u8x16
     requires all { length lanes ≡ 16 }

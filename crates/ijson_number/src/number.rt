@@ -50,7 +50,8 @@ impl From<AllocError> for ParseNumberError {
 pub enum ReadNumberError {
     /// The text begins with no number, or with one that breaks off.
     ///
-    /// `at` is the offset of the first byte that no number continues with, or the length of a text that ends too early.
+    /// `at` is the offset of the first byte that cannot continue a number, or the length of a text
+    /// that ends too early.
     #[error("not a JSON number at byte {at}")]
     Syntax { at: usize },
     /// The canonical exponent of the leading number is out of range.
@@ -208,9 +209,9 @@ pub enum Form<'a> {
         exponent: i8,
         point: bool,
     },
-    /// An integer without the fraction point that does not fit a packed mantissa.
+    /// An integer that does not fit a packed mantissa, without a decimal point.
     I64(i64),
-    /// An integer without the fraction point that is too large for an `i64`.
+    /// An integer too large for an `i64`, without a decimal point.
     U64(u64),
     /// Any other number: `digits * 10^exponent`, negated if `negative`.
     ///

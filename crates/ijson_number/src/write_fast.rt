@@ -355,7 +355,7 @@ impl StrippedNumber<'_> {
         Ok(self.exponent)
     }
 
-    /// Like `push_runs`, but in one append if there are at most 16 digits, with which `lanes` then ends.
+    /// Like `push_runs`, but appends up to 16 digits in one call, from the end of `lanes`.
     fn push_row(&self, lanes: u8x16, out: &mut String) -> Result<i32, AllocError>
         requires all { length lanes ≡ 16 }
         requires lanes { length self.now.digits.now ≤ 16

@@ -69,7 +69,8 @@ module _ (count hash : ℕ) (text : List ℕ) where
             (sym (eqb-suc-zero n)) (rw (add-one (suc n)) (ap (λ b. is_key hash text k || b) some))
       ] (any-heads keys)
 
-  -- The rest of a lookup: the key, if it is present, is among the first `at` keys, and the last of those is in its bucket.
+  -- The rest of a lookup: the key, if present, is among the first `at`, and key `at - 1` is in the
+  -- bucket of `hash`.
   pub record IsAhead (keys : List Key) (at : ℕ) : Type 0 where
     pub within : at ≤ length keys
     pub here : 0 < at → get_or (buckets_of_keys count keys) (at - 1) 0 ≡ bucket_of count hash

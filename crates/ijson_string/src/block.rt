@@ -118,7 +118,9 @@ impl Block<23> {
     }
 }
 
-/// Copies `size` bytes of `text`, from `start` on, to the same place in `bytes`, whose bytes before `start` are those of `text`.
+/// Copies `text[start..start + size]` to the same range of `bytes`.
+///
+/// `bytes` has to begin with `text[..start]`.
 #[inline(always)]
 fn put_piece(bytes: &mut [u8], text: &[u8], start: usize, size: usize)
     requires inside { start + size ≤ length text.now }

@@ -13,12 +13,12 @@ use std::random::RandomSource;
 /// Strings from strangers need a seed that they don't know, since `FoldHasher` alone is fixed and public.
 #[derive(Clone, Copy, Drop)]
 pub struct SeededState {
-    /// The hasher after the seed.
+    /// A hasher that was fed the seed.
     pub start: FoldHasher,
 }
 
 impl SeededState {
-    /// Creates the state of a seed.
+    /// Creates a state from `seed`.
     pub fn new(seed: u64) -> SeededState
         ensures { result.start ≡ folding.write folding.initial (fed.le_bytes 8 seed) }
     {
@@ -27,7 +27,7 @@ impl SeededState {
         SeededState { start }
     }
 
-    /// Creates the state of eight random bytes.
+    /// Creates a state from eight random bytes.
     ///
     /// # Errors
     ///

@@ -44,7 +44,7 @@ pub struct RefusedPair<V> {
     pub key: IString,
     /// The given value.
     pub value: V,
-    /// The reason why the store did not grow.
+    /// Why the store did not grow.
     pub why: ReserveError,
 }
 
@@ -67,11 +67,11 @@ impl<V: Drop> From<RefusedPair<V>> for ReserveError {
 ///
 /// # Cost
 ///
-/// A list takes, per entry of its capacity, 16 bytes and the size of a value. A table takes 20 bytes more, but 4 up to
-/// a capacity of 127, and none up to 8.
+/// Each entry of the capacity takes 16 bytes and the size of a value. A `Table` adds 20 bytes per
+/// entry, or 4 up to a capacity of 127, or none up to 8.
 ///
 /// A table that grows, shrinks or is copied hashes each key once, or twice if many keys collide. A copy with the same
-/// number of slots hashes none.
+/// number of slots hashes no key.
 pub trait PairStore<V>: Sized {
     /// The entries, in order.
     ghost pairs: { Self → List (List ℕ × V) };

@@ -96,9 +96,9 @@ impl<V: Drop, H: KeyHash> Table<V, H> {
         })
     }
 
-    /// Creates a store of pairs with the same keys in the same order, with no spare capacity.
+    /// Creates a store of `pairs`, with this store's keys in its order and without spare capacity.
     ///
-    /// It serves to clone this store. An empty list does not allocate.
+    /// Serves to clone this store. An empty list does not allocate.
     ///
     /// # Errors
     ///
@@ -107,7 +107,7 @@ impl<V: Drop, H: KeyHash> Table<V, H> {
     /// # Cost
     ///
     /// If this store has no spare capacity, no key is hashed, and the time is linear in the number of entries. Otherwise,
-    /// it is that of `from_pairs` for the same entries.
+    /// this costs as much as `from_pairs`.
     pub fn with_same_keys(
         &self,
         alloc: Global,

@@ -82,7 +82,7 @@ impl Hash for IValue {
     }
 }
 
-/// Hashes the array like the value that contains it.
+/// Hashes like the `IValue` of this array.
 impl Hash for IArray {
     ghost hash_input = { λ a. flat_map fed.u64 (words (array_tree a.items)) };
 
@@ -93,7 +93,7 @@ impl Hash for IArray {
     }
 }
 
-/// Hashes the object like the value that contains it.
+/// Hashes like the `IValue` of this object.
 impl Hash for IObject {
     ghost hash_input = { λ o. flat_map fed.u64 (words (object_tree o.pairs)) };
 

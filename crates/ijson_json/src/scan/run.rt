@@ -80,9 +80,9 @@ fn last_run_end(bytes: &[u8], start: usize) -> usize
     }
 }
 
-/// Returns `true` if the first `count` bytes of the block of an inline string are unescaped.
+/// Returns `true` if the first `count` bytes of `row`, an inline string's bytes, are unescaped.
 ///
-/// The length byte before them in memory is tested with them, since all eight are one word.
+/// `count` is tested too: it is stored before the bytes, and all eight are one word.
 #[inline(always)]
 pub(crate) fn begins_unescaped(row: &str, count: u8) -> bool
     requires { length row.now ≡ 7 }

@@ -39,9 +39,9 @@ fn push_unicode(out: &mut String, control: u8) -> Result<(), AllocError>
     out.push(hex_letter(control % 16))
 }
 
-/// The letter after the backslash in the escape of each byte, or `u` if it has none of its own.
+/// The letter after the backslash in each byte's escape; `u` for a byte without its own.
 ///
-/// A table costs the same for each byte, while the branch predictor rarely predicts a jump on it.
+/// A table costs the same for each byte; a jump on the byte would rarely be predicted.
 static LETTERS: [u8; 128] = *b"\
     uuuuuuuubtnufruuuuuuuuuuuuuuuuuu\
     uu\"uuuuuuuuuuuuuuuuuuuuuuuuuuuuu\

@@ -63,7 +63,7 @@ scaled_below ds j h =
     let some = some_places 1 j (omega arith) in
     rw (pow-add 10 (length ds) j) (grind (arith, m, some))
 
--- the first digits decide, or if they are equal what follows them
+-- the first digits decide or, if equal, the digits after them
 first_digits : (d x p a b : ℕ) → a < p → b < p → nat_cmp (d * p + a) (x * p + b) ≡ ordering_then (nat_cmp d x) (nat_cmp a b)
 first_digits d x p a b h g = by_ranked _ _ _ (nat_cmp d x) (ranked d x _ refl)
     (λ e l. let m : suc d * p ≤ x * p = mul-le-mul_right p l in rw e (nat_below (d * p + a) (x * p + b) (grind (arith, m))))

@@ -1,4 +1,4 @@
--- The postconditions of the scanner, once the zeros are stripped, and the number of the parts.
+-- The general reader's postconditions after it strips zeros, and the number that the parts spell.
 use Rattle.ijson_number.proofs.Common.{◌≡◌, ◌≢◌, ℕ, zero, suc, ◌+◌, ◌-◌, ◌^◌, ◌<◌, ◌≤◌, Bool, false, List, [], ◌∷◌, ◌++◌, length, get_or, replicate}
 use Rattle.ijson_number.proofs.Common.{refl, ap, sym, ◌∙◌, length-append, inl, inr, arith, ℤ, pos, map-append, nil_from_length, All-from_recursion}
 use Rattle.ijson_number.proofs.Common.{number_from_digits, Decimal, IsNum, stored_number, AllDigits, Denotes, Parts, IsSpelled, IsFraction, Spells}

@@ -55,11 +55,11 @@ module _ (text : List ℕ) (f : Front) (rest : List ℕ) (m : IsMantissa text f 
       ap (λ n. take n text) (sym long) ∙ ap (take (length (front ++ take count rest))) split
       ∙ take-append_seam (front ++ take count rest) (drop count rest)
 
-  -- and the text after it
+  -- the text after an exponent of `count` bytes
   behind : (count : ℕ) → drop (f.length + count) text ≡ drop count rest
   behind count = ap (λ n. drop (n + count) text) m.length_is ∙ ap (drop (length front + count)) m.text_is ∙ drop-append-add front rest count
 
-  -- the text is as long as both
+  -- the text is as long as the front and the rest
   pub whole_length : length text ≡ f.length + length rest
   whole_length = ap length m.text_is ∙ length-append front rest ∙ ap (λ n. n + length rest) (sym m.length_is)
 
@@ -181,7 +181,7 @@ front_with text rest f m power exponent count is zero others =
     has_point [] = tt
     has_point (b ∷ bs) = λ h. absurd (cc)
 
--- and it is one without an exponent
+-- a significand that ends its token is a leading number
 pub front_alone : (text rest : List ℕ) (f : Front) → IsMantissa text f rest → EndsToken rest → IsFront text f
 front_alone text rest f m ends =
     let s = f.significand in

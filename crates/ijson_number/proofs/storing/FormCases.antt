@@ -67,7 +67,7 @@ module _ (x : StrippedNumber) (n : Decimal) (view : decimal_of x ≡ n) where
   pub zero_words : length x.digits.now ≡ 0 → number_words n ≡ 2 ∷ 0 ∷ []
   zero_words h = ap number_words (sym view) ∙ rw (nil_from_length x.digits.now h, signed_nought x.negative) refl
 
-  -- another number feeds its parts
+  -- a nonzero number feeds its parts
   pub stored_words : 0 < length x.digits.now → number_words n
       ≡ 2 ∷ (if x.negative then 2 else 1) ∷ nat_abs (x.exponent +ℤ pos 2147483648) ∷ length x.digits.now ∷ x.digits.now
   stored_words h =

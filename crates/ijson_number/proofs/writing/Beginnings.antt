@@ -5,7 +5,7 @@ use Rattle.std.proofs.lemmas.Result.{MatchResult-from_err}
 use Rattle.ijson_number.specs.AppendsBeginning.{AppendsBeginning}
 use Rattle.ijson_number.specs.private.Pushed.{Appends}
 
--- nothing was appended
+-- nothing was appended: the empty beginning
 pub none_begun : (old new text : List ℕ) → new ≡ old → AppendsBeginning old new text
 none_begun old new text e = record { front = []; rest = text; is = refl; taken = e ∙ sym (append-nil old) }
 
@@ -36,7 +36,7 @@ last_begun old out new done piece text e w f = record {
 pub begun_as : (old new piece text : List ℕ) → AppendsBeginning old new piece → piece ≡ text → AppendsBeginning old new text
 begun_as old new piece text w f = record { front = w.front; rest = w.rest; is = sym f ∙ w.is; taken = w.taken }
 
--- an append that failed
+-- a failed append appends a beginning
 pub failed : {T E : Type 0} (r : Result T E) (old new text : List ℕ) → IsErr r → AppendsBeginning old new text → Appends r old new text
 failed r old new text e w = MatchResult-from_err r _ _ e (λ _. w)
 

@@ -307,9 +307,9 @@ pub struct StrippedNumber<'a> {
 impl<'a> StrippedNumber<'a> {
     ghost use Rattle.ijson_number.specs.private.StrippedNumber.{decimal_of};
 
-    /// Returns `magnitude * 10^exponent`, negated if `negative`, by its canonical digits.
+    /// Returns `magnitude * 10^exponent`, negated if `negative`, with canonical digits.
     ///
-    /// The digits are written as text, four at a time, and their values to `buffer`.
+    /// Writes the digits as text, four at a time, and then their values to `buffer`.
     pub fn from_magnitude(
         negative: bool,
         magnitude: u64,

@@ -22,7 +22,7 @@ filters_of buckets = map (λ b. b.filter) buckets
 abbrev pub AreChained : List Link → List ℕ → Type 0
 AreChained links heads = IsChained (buckets_of (length heads) (hashes_of links)) (nexts_of links) heads
 
--- with up to four links for each bucket, and filters that let each hash pass
+-- chained links, at most 4 per bucket on average; filters pass each hash
 pub record IsTable (links : List Link) (buckets : List Bucket) : Type 0 where
   pub room : length links ≤ 4 * length buckets
   pub bounded : length buckets ≤ 2 ^ 32

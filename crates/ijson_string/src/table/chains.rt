@@ -18,7 +18,7 @@ const TEXTS_PER_BUCKET: usize = 4;
 #[derive(Clone, Copy, Drop)]
 pub(crate) struct Link {
     pub(crate) hash: u32,
-    /// An index plus 1, or 0 at the end of the chain.
+    /// The index of a link plus 1, or 0 at the end of the chain.
     pub(crate) next: u32,
 }
 
@@ -29,7 +29,7 @@ const _: () = prove!(size_of::<Link>() == 8);
 /// Both are in one word, so that a lookup of an absent string waits for memory once.
 #[derive(Clone, Copy, Drop)]
 pub(crate) struct Bucket {
-    /// An index plus 1, or 0 if the chain is empty.
+    /// The index of a link plus 1, or 0 if the chain is empty.
     head: u32,
     /// A Bloom filter: up to three bits for each hash.
     filter: u32,

@@ -74,7 +74,7 @@ by_more n d p =
     sym (mod-mul-add (q / 256) (d * 256) (q % 256 * d + r) small)
     ∙ ap (λ x. x % (d * 256)) (sym split ∙ (ap (λ x. x * d + r) parts ∙ whole))
 
--- it has the same remainder by d
+-- n % (d * 256) and n have the same remainder by d
 pub mod-more : (n d : ℕ) → n % (d * 256) % d ≡ n % d
 mod-more n d =
     let q : ℕ = n / (d * 256) in

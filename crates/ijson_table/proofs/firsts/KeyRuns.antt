@@ -41,14 +41,14 @@ module _ {n : ℕ} {hash : List ℕ → ℕ} (keys : List (List ℕ)) (sorted : 
   pub each_stands : (k : ℕ) → k < length sorted → position_in (get_or sorted k blank) ≢ None
   each_stands k lk = All-get_or (λ entry. position_in entry ≢ None) sorted k blank lk s.entries.some
 
-  -- so each has the hash of its key
+  -- each entry has its key's hash
   is_hashed : (k : ℕ) → k < length sorted → (get_or sorted k blank).hash ≡ kept n (hash (entry_key keys (get_or sorted k blank)))
   is_hashed k lk =
       let it = some_position (position_in (get_or sorted k blank)) (each_stands k lk) in
       hashes-at n (map hash keys) sorted k s.entries.hashes_are lk it.0 it.1
       ∙ ap (kept n) (get_or-map hash keys it.0 [] 0 (is_position k it.0 lk it.1) ∙ ap (λ o. hash (key_at_position keys o)) (sym it.1))
 
-  -- and entries of one key have one hash
+  -- entries of one key have one hash
   one_hash : (k l : ℕ) → k < length sorted → l < length sorted
       → entry_key keys (get_or sorted k blank) ≡ entry_key keys (get_or sorted l blank)
       → (get_or sorted k blank).hash ≡ (get_or sorted l blank).hash

@@ -37,7 +37,7 @@ module _ {V : Type 0} where
       let none = none_in p.0 (keys_of ps) key missing in
       (lacks_with_key p.0 ps i key d.0 none.1, distinct_with_key ps i key d.1 (omega arith) none.2)
 
-  -- the same key changes nothing
+  -- an equal key changes no pair
   pub with_same_key : (pairs : List (List ℕ × V)) (i : ℕ) (key : List ℕ) → i < length pairs → get_or (keys_of pairs) i [] ≡ key
       → with_key pairs i key ≡ pairs
   with_same_key [] i key li e = absurd (omega arith)

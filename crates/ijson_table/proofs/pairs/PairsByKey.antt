@@ -1,4 +1,4 @@
--- Changes of a list of pairs keep distinct keys, their indices and their values.
+-- Lists of pairs after a change: distinct keys, and each key's index and value.
 use Rattle.std.proofs.Common.{◌≡◌, ◌≢◌, ℕ, zero, suc, ◌+◌, ◌-◌, ◌<◌, inl, inr, arith, List, [], ◌∷◌, ◌++◌, length, get_or, set, take}
 use Rattle.std.proofs.Common.{eqb, if◌then◌else◌, Some, None, refl, sym, ap, subst, ◌∙◌, get_or-set_other, length-take}
 use Rattle.std.specs.Prelude.{swap_remove, slice_get}

@@ -75,7 +75,7 @@ module _ {V : Type 0} (old new : List (List ℕ × V)) (k p : ℕ) (kp : k ≤ p
     pub before : i < k
     before = omega (arith, position_within (take k new) (get_or (keys_of new) k []) i found, length-take-le k new (le_of_lt within))
 
-    -- if its key is at i, it replaces the pair there,
+    -- the swap sets the value of the key at i
     over : take k (swap new i k) ≡ with_value (take k new) i next.pair.1
     over =
         let first : List (List ℕ × V) = take k new in
@@ -89,11 +89,11 @@ module _ {V : Type 0} (old new : List (List ℕ × V)) (k p : ℕ) (kp : k ≤ p
         let value = set-value first i pair next.pair.1 there (get_or_default first i next.pair pair there) in
         cc (swapped, last, put, value, next.is, same)
 
-    -- with the same keys,
+    -- the swap keeps the keys
     pub over_keys : keys_of (take k (swap new i k)) ≡ keys_of (take k old)
     over_keys = ap keys_of over ∙ (keys-with_value (take k new) i next.pair.1 ∙ ap keys_of moved_first)
 
-    -- and is inserted
+    -- the swap inserts the next pair
     pub over_put : take k (swap new i k) ≡ put (take k old) next.pair.0 next.pair.1
     over_put =
         let replaced = put-present (take k new) i next.pair.0 next.pair.1 (ap (at (take k new)) (sym next_key) ∙ found) in

@@ -147,7 +147,7 @@ impl<'a, 'i, V, S: StoredSlot + Copy, H: KeyHash> ProbeTarget for Lookup<'a, 'i,
     }
 }
 
-/// Returns whether the pair at index `position` has this key.
+/// Returns `true` if the pair at `position` has this key.
 pub fn has_key<V>(pairs: &[(IString, V)], position: usize, key: &str) -> bool
     requires { position < length pairs.now }
     ensures { IsTrue result ↔ (get_or (keys_of pairs.now) position [] ≡ key.now) }

@@ -18,7 +18,7 @@ pub fn merge_duplicates<V>(pairs: &mut [(IString, V)], earlier: Vec<usize>) -> u
     requires { AreEarlier (keys_of pairs.old) earlier.items }
     ensures { take result pairs.new ≡ put_each [] pairs.old }
 {
-    // An earlier index is replaced by the index of the key among the inserted pairs.
+    // For each pair before `position`: the index of its key among the inserted pairs.
     let mut places = earlier;
     let mut kept = 0;
     for position in 0..pairs.len() {

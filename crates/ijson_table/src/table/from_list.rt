@@ -127,8 +127,8 @@ impl<V: Drop, H: KeyHash> Table<V, H> {
 
 /// Inserts the pairs in order within their list, and their indices into empty slots, up to a bound on the steps.
 ///
-/// Returns the number of keys that were inserted and the number of pairs that were read. The replaced pairs are between
-/// them and those left.
+/// Returns the number of keys inserted and the number of pairs read. The pairs between these two
+/// indices were replaced.
 #[inline(always)]
 fn put_in_place<V: Drop, H: KeyHash>(
     pairs: &mut [(IString, V)],

@@ -69,7 +69,7 @@ impl<'a, K: Text + Drop> Drop for VacantEntry<'a, K> {
 pub struct RefusedKey {
     /// The key given.
     pub key: IString,
-    /// Why there is no capacity for it.
+    /// Why there is no capacity for `key`.
     pub why: ReserveError,
 }
 

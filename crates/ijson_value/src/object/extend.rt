@@ -23,7 +23,7 @@ use thiserror::Error;
 pub struct RefusedPairs {
     /// The given entries, in order.
     pub pairs: Vec<(IString, IValue)>,
-    /// The reason why there is no capacity for them.
+    /// Why there is no capacity for `pairs`.
     pub why: ReserveError,
 }
 

@@ -9,7 +9,7 @@ use crate::value::IValue;
 use ijson_string::IString;
 
 impl IObject {
-    /// Keeps the entries for which the closure returns `true`, with the values it leaves there.
+    /// Keeps the entries for which `asks` returns `true`, with the values that `asks` writes.
     ///
     /// Entries are visited from the first. The last entry replaces a removed one and is visited next, so the order stays only if nothing is
     /// removed. It does not allocate.

@@ -81,8 +81,8 @@ impl IValue {
 
     /// Returns the content by mutable reference, to match on its kind.
     ///
-    /// Writing changes the value but not its kind. A caller can prove the new value only by hand; after `as_*_mut` or a `match` on `&mut
-    /// **value` it is known without a proof.
+    /// Writing changes the value but not its kind. A caller has to prove the new value by hand;
+    /// after `as_*_mut` or a `match` on `&mut **value` it needs no proof.
     pub fn destructure_mut(&mut self) -> DestructuredMut<'_>
         ensures* writes_back { sem 𝓛 (LendsParts self.entry result) }
         ensures value { mut_value result ≡ self.old }

@@ -216,7 +216,7 @@ impl IValue {
 }
 
 impl IValue {
-    /// `Destructured::get_mut` by the path of `IValue`.
+    /// Returns `opened.get_mut(index)`, for calls by path.
     ///
     /// The argument derefs: `IValue::get_mut(&mut value, "port")` is the call `value.get_mut("port")`.
     pub fn get_mut<I: ValueIndex>(opened: &mut Destructured, index: I) -> Option<&mut IValue>
@@ -228,7 +228,7 @@ impl IValue {
         I::index_opened_mut(opened, index)
     }
 
-    /// `Destructured::index_or_insert` by the path of `IValue`, like `IValue::get_mut`.
+    /// Returns `opened.index_or_insert(key)`, for calls by path like `IValue::get_mut`.
     pub fn index_or_insert(
         opened: &mut Destructured,
         key: IString,

@@ -7,7 +7,7 @@ use Rattle.ijson_convert.specs.SerdeTree.{SerdeItems, SerdeMembers}
 use Rattle.ijson_convert.specs.SerdeTexts.{serde_items_texts, serde_members_texts}
 use Rattle.ijson_convert.proofs.serde.+from.Given as goal
 
--- the elements so far have their trees, and their strings are interned
+-- the array has the trees of the elements so far, and their strings are interned
 abbrev pub invariant-from_items-loop-item : goal.invariant-from_items-loop-item
 invariant-from_items-loop-item g l =
     SerdeItems (items_view (take l.item-index l.item-items)) (item_trees l.array.items)
