@@ -1,6 +1,6 @@
 //! Compact JSON values with exact decimals.
 //!
-//! A number is an exact decimal that keeps whether it was written with a fraction point; an object is an ordered list of entries with
+//! A number is an exact decimal that keeps whether it was written with a decimal point; an object is an ordered list of entries with
 //! distinct keys, equal to another in any order of its entries. `json::from_json` reads JSON and `json::to_json` writes it. Every function
 //! that allocates can return an error instead. This crate re-exports the modules of the library.
 //!

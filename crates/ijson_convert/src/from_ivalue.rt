@@ -14,7 +14,7 @@ use std::alloc::Global;
 /// A type that can be read from a JSON value, and has a tree that means the same.
 ///
 /// It is implemented for `bool`, the integers of up to 64 bits, `String` and `IString`; and, if `T` implements it, for `Option<T>` (null is
-/// `None`), `Vec<T>`, `BTreeMap<String, T>` and `HashMap<String, T>`. A number with a fraction point is an integer if its value is whole:
+/// `None`), `Vec<T>`, `BTreeMap<String, T>` and `HashMap<String, T>`. A number with a decimal point is an integer if its value is whole:
 /// `2.0` is 2. Null is the outermost `None`: an `Option<Option<u8>>` is then `None`, never `Some(None)`.
 pub trait FromIValue: Sized {
     /// The tree of a value.

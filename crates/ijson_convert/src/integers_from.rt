@@ -25,7 +25,7 @@ fn why_no_integer(value: &IValue) -> ConvertError
     }
 }
 
-/// Reads a whole number in range, with or without a fraction point.
+/// Reads a whole number in range, with or without a decimal point.
 ///
 /// # Errors
 ///
@@ -52,7 +52,7 @@ impl FromIValue for i8 {
     ghost complete = { signed_complete w8 wide_8 };
 }
 
-/// Reads a whole number in range, with or without a fraction point.
+/// Reads a whole number in range, with or without a decimal point.
 ///
 /// # Errors
 ///
@@ -79,7 +79,7 @@ impl FromIValue for i16 {
     ghost complete = { signed_complete w16 wide_16 };
 }
 
-/// Reads a whole number in range, with or without a fraction point.
+/// Reads a whole number in range, with or without a decimal point.
 ///
 /// # Errors
 ///
@@ -103,7 +103,7 @@ impl FromIValue for i32 {
     ghost complete = { signed_complete w32 wide_32 };
 }
 
-/// Reads a whole number in range, with or without a fraction point.
+/// Reads a whole number in range, with or without a decimal point.
 ///
 /// # Errors
 ///
@@ -127,7 +127,7 @@ impl FromIValue for i64 {
     ghost complete = { signed_complete w64 wide_64 };
 }
 
-/// Reads a whole number in range, with or without a fraction point.
+/// Reads a whole number in range, with or without a decimal point.
 ///
 /// # Errors
 ///
@@ -151,7 +151,7 @@ impl FromIValue for isize {
     ghost complete = { signed_complete w64 wide_64 };
 }
 
-/// Reads a whole number in range, with or without a fraction point.
+/// Reads a whole number in range, with or without a decimal point.
 ///
 /// # Errors
 ///
@@ -178,7 +178,7 @@ impl FromIValue for u8 {
     ghost complete = { unsigned_complete (2 ^ 8) below_8 };
 }
 
-/// Reads a whole number in range, with or without a fraction point.
+/// Reads a whole number in range, with or without a decimal point.
 ///
 /// # Errors
 ///
@@ -205,7 +205,7 @@ impl FromIValue for u16 {
     ghost complete = { unsigned_complete (2 ^ 16) below_16 };
 }
 
-/// Reads a whole number in range, with or without a fraction point.
+/// Reads a whole number in range, with or without a decimal point.
 ///
 /// # Errors
 ///
@@ -229,7 +229,7 @@ impl FromIValue for u32 {
     ghost complete = { unsigned_complete (2 ^ 32) below_32 };
 }
 
-/// Reads a whole number in range, with or without a fraction point.
+/// Reads a whole number in range, with or without a decimal point.
 ///
 /// # Errors
 ///
@@ -253,7 +253,7 @@ impl FromIValue for u64 {
     ghost complete = { unsigned_complete (2 ^ 64) below_64 };
 }
 
-/// Reads a whole number in range, with or without a fraction point.
+/// Reads a whole number in range, with or without a decimal point.
 ///
 /// # Errors
 ///

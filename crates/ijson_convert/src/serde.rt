@@ -40,7 +40,7 @@ pub fn from_serde_number(number: &Number) -> Result<INumber, ConvertError>
     }
 }
 
-/// Converts a number to one of `serde_json` with its value; the fraction point is lost.
+/// Converts a number to one of `serde_json` with its value; the decimal point is lost.
 ///
 /// It does not allocate.
 ///
@@ -65,7 +65,7 @@ pub fn to_serde_number(number: &INumber) -> Result<Number, ConvertError>
 /// Converts a value of `serde_json` to a JSON value.
 ///
 /// Members are in the order of its map, which is that of their keys. Strings and keys are interned in `cache`, in order. Numbers have no
-/// fraction point.
+/// decimal point.
 ///
 /// # Errors
 ///
@@ -165,7 +165,7 @@ pub fn from_serde_map<S: BuildHasher>(
 
 /// Converts a JSON value to a value of `serde_json`.
 ///
-/// A number keeps its value but not its fraction point; members are in the order of their keys. Strings are copied.
+/// A number keeps its value but not its decimal point; members are in the order of their keys. Strings are copied.
 ///
 /// # Errors
 ///

@@ -19,7 +19,7 @@ pub const INITIAL_CAPACITY: usize = 128;
 
 /// Returns the JSON text of `value`, without white space.
 ///
-/// Objects keep the order of their members, and numbers keep whether they have a fraction point.
+/// Objects keep the order of their members, and numbers keep whether they have a decimal point.
 ///
 /// ```
 /// let text = to_json(alloc, &value)?; // {"a":[1.5,100.0]} after reading { "a" : [1.50, 1e2] }

@@ -22,7 +22,7 @@ fits_u64 m = int_le (pos 0) m && int_lt m (pos (2 ^ 64))
 abbrev pub digits_form : Decimal → FormOf
 digits_form n = digits (int_lt n.mantissa (pos 0)) (stripped_digits n) n.exponent n.point
 
--- the whole number m * 10 ^ e, without the fraction point
+-- the whole number m * 10 ^ e, without a decimal point
 abbrev pub integer_form : Decimal → ℤ → FormOf
 integer_form n m =
     elim (fits_packed m) [

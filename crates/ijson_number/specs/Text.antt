@@ -35,7 +35,7 @@ point_text ds p =
       ]
     ]
 
--- the digits ds and the exponent e, with the fraction point
+-- the digits ds and the exponent e, with a decimal point
 abbrev pub float_text : List ℕ → ℤ → List ℕ
 float_text ds e =
     elim (int_le (pos (length ds) +ℤ e) (negsuc 5) || int_lt (pos 20) e) [
@@ -43,7 +43,7 @@ float_text ds e =
       | false ↦ point_text ds (pos (length ds) +ℤ e)
     ]
 
--- the digits ds and the exponent e, with or without the fraction point
+-- the digits ds and the exponent e, with or without a decimal point
 abbrev pub shape_text : Bool → List ℕ → ℤ → List ℕ
 shape_text point ds e =
     elim point [

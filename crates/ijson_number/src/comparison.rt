@@ -138,7 +138,7 @@ fn compare_magnitudes<D: DigitRow>(a: &D, b: &D, looks: &mut Looks) -> Ordering
     }
 }
 
-/// Compares two numbers by value. The fraction point is ignored.
+/// Compares two numbers by value. The decimal point is ignored.
 ///
 /// The inspections must stay below 2^128.
 ///

@@ -73,7 +73,7 @@ fn encode_integer(negative: bool, magnitude: u64) -> Option<Stored>
 impl Significand {
     /// Returns the word of a common number, if it fits one.
     ///
-    /// Most numbers with the fraction point are common: they have at most seven fraction digits and a magnitude below 2^55.
+    /// Most numbers with a decimal point are common: they have at most seven fraction digits and a magnitude below 2^55.
     #[inline(always)]
     fn common_word(self) -> Option<Stored>
         requires point { self.point ≡ true }
@@ -117,7 +117,7 @@ impl Significand {
         }
     }
 
-    /// Returns the packed word of a canonical whole number with the fraction point, if it fits one.
+    /// Returns the packed word of a canonical whole number with a decimal point, if it fits one.
     ///
     /// Its exponent is the smallest possible.
     fn whole_word(self) -> Option<Stored>

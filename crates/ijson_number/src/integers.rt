@@ -227,7 +227,7 @@ impl INumber {
 
     /// Returns the value if it is a whole number in the range of `i64`, and `None` otherwise.
     ///
-    /// The fraction point is ignored: `2.0` and `20e-1` are 2. Takes constant time and does not allocate.
+    /// The decimal point is ignored: `2.0` and `20e-1` are 2. Takes constant time and does not allocate.
     pub fn to_i64(&self) -> Option<i64>
         ensures some { IfSome result (λ z. HasValue self.now.decimal z) }
         ensures none { IfNone result

@@ -182,7 +182,7 @@ impl INumber {
         }
     }
 
-    /// Whether the number was written with a fraction point or an exponent.
+    /// Whether the number was written with a decimal point or an exponent.
     ///
     /// `2.0` and `2e0` were, `2` was not.
     pub fn has_decimal_point(&self) -> bool
@@ -200,7 +200,7 @@ impl INumber {
 
 /// The representation of a number.
 ///
-/// `point` is `true` if the number was written with a fraction point or an exponent.
+/// `point` is `true` if the number was written with a decimal point or an exponent.
 #[derive(Clone, Copy, PartialEq, Eq, Debug)]
 pub enum Form<'a> {
     /// `mantissa * 10^exponent`; the exponent is from -7 to 7, the mantissa from -2^55 to 2^55 - 1.
@@ -256,7 +256,7 @@ impl INumber {
 
     /// Returns the representation. Digits are borrowed.
     ///
-    /// Numbers with the same value and fraction point have one form and one text, and no other number has that text. It does not allocate.
+    /// Numbers with the same value and decimal point have one form and one text, and no other number has that text. It does not allocate.
     /// `1.50` is `Packed` with the mantissa 15 and the exponent -1, `9223372036854775807` is `I64`, and `1e-9` is a list of one digit.
     pub fn form(&self) -> Form<'_>
         ensures form { form_value result ≡ form_of self.now.decimal }
@@ -311,7 +311,7 @@ impl Clone for Stored {
     }
 }
 
-/// Copies the number with its fraction point.
+/// Copies the number with its decimal point.
 impl Clone for INumber {
     ghost is_clone = { λ n copy. copy ≡ n };
 
@@ -354,7 +354,7 @@ impl Hash for INumber {
     }
 }
 
-/// Two numbers are equal if their values are; the fraction point is ignored.
+/// Two numbers are equal if their values are; the decimal point is ignored.
 ///
 /// It does not allocate, and reads each digit at most once.
 impl PartialEq for INumber {
@@ -392,7 +392,7 @@ impl PartialOrd for INumber {
     }
 }
 
-/// Orders numbers by value; the fraction point is ignored.
+/// Orders numbers by value; the decimal point is ignored.
 ///
 /// It does not allocate, and writes no exponent out as zeros. It reads digits only if the signs and the leading places are equal, and
 /// then at most two for each digit of the number with fewer.

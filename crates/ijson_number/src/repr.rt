@@ -11,7 +11,7 @@ use std::marker::Model;
 
 /// An exact decimal of 16 bytes.
 ///
-/// It is zero, or a significand without trailing zeros times a power of ten whose exponent is from -2^30 to 2^30; and its fraction point:
+/// It is zero, or a significand without trailing zeros times a power of ten whose exponent is from -2^30 to 2^30; and its decimal point:
 /// whether it was written with a point or an exponent. A number whose form is a list of digits stores these in an allocation of its own.
 /// `2`, `2.0` and `20e-1` are equal, and the last two print as `2.0`.
 #[derive(Drop)]

@@ -4,7 +4,7 @@ ghost use Rattle.ijson_number.specs.private.Significand.{HasFewerTens, canonical
 
 /// `magnitude * 10^exponent`, negated if `negative`.
 ///
-/// `point` is `true` if a fraction point or an exponent was written. The number is canonical if ten does not divide the magnitude, and
+/// `point` is `true` if a decimal point or an exponent was written. The number is canonical if ten does not divide the magnitude, and
 /// zero has no sign and the exponent 0.
 #[derive(Clone, Copy)]
 pub struct Significand {

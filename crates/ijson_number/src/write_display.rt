@@ -114,14 +114,14 @@ impl fmt::Display for Pointed<'_> {
     }
 }
 
-/// Whether a number with the fraction point is written with an exponent.
+/// Whether a number with a decimal point is written with an exponent.
 pub fn is_scientific(place: i128, exponent: i32) -> bool
     ensures { result ≡ (int_le place (negsuc 5) || int_lt (pos 20) exponent) }
 {
     place <= -6 || exponent > 20
 }
 
-/// One or more digits and an exponent, with or without the fraction point.
+/// One or more digits and an exponent, with or without a decimal point.
 #[derive(Drop)]
 struct Shape<'a> {
     digits: &'a [u8],
@@ -152,7 +152,7 @@ impl fmt::Display for Shape<'_> {
 
 /// Writes the text of a number, as JSON.
 ///
-/// A number without the fraction point is written with all its digits. One with it is written with an exponent if the canonical exponent
+/// A number without a decimal point is written with all its digits. One with it is written with an exponent if the canonical exponent
 /// is above 20 or more than five zeros would follow `0.`. `1e2` is written `100.0`, `1e21` as `1e21`, and `0.0000001` as `1e-7`. Takes
 /// time linear in the text, and does not allocate.
 impl fmt::Display for INumber {

@@ -1,7 +1,7 @@
 //! Appends the text of a number, and its canonical digits.
 //!
 //! Vectors of 16 digits are tried first. Without a formatter they append an integer that fits a word, and a number of at most 19 digits
-//! with the fraction point, unless its text has zeros between the digits and the point or an exponent after a single digit.
+//! with a decimal point, unless its text has zeros between the digits and the point or an exponent after a single digit.
 //! `write_display` writes the others.
 ghost use Rattle.std.specs.Prelude.{◌≡◌, ◌+◌, ◌-◌, ◌/◌, ◌%◌, ◌^◌, ◌<◌, ◌≤◌, ◌∷◌, ◌++◌, ℤ, drop, length, nat_abs, neg_ℤ, pos, true, negsuc, int_le};
 ghost use Rattle.std.specs.Prelude.{int_lt, ◌||◌, ◌+ℤ◌, ◌≤ℤ◌, ◌⊎◌, IsSome, OnErr, OnOk, IfOk};
@@ -28,7 +28,7 @@ use crate::write_display::{is_scientific, run_text};
 use std::alloc::AllocError;
 use std::simd::prelude::*;
 
-/// The maximum number of bytes, besides the digits, of a text with the fraction point: a minus, 20 zeros and `.0`.
+/// The maximum number of bytes, besides the digits, of a text with a decimal point: a minus, 20 zeros and `.0`.
 const BESIDE_DIGITS: usize = 23;
 
 /// Appends `magnitude / 10^scale` with a sign and `scale` fraction digits.
@@ -83,7 +83,7 @@ pub fn push_integer(negative: bool, magnitude: u64, out: &mut String) -> Result<
     push_lanes(lanes_of(magnitude % SHORT_END), 1, LANES - 1, out)
 }
 
-/// Appends a packed number with the fraction point.
+/// Appends a packed number with a decimal point.
 ///
 /// Returns `None`, with nothing appended, if its text has an exponent, or zeros before the point that are not digits.
 #[inline(always)]
@@ -226,9 +226,9 @@ impl StrippedNumber<'_> {
         Some(self.push_fraction(lanes, place.unsigned_abs() as usize, out))
     }
 
-    /// Appends a number with the fraction point, or returns `None` with nothing appended.
+    /// Appends a number with a decimal point, or returns `None` with nothing appended.
     ///
-    /// It returns `None` only if an exponent follows a single digit, zeros are between the digits and the point, or there is no fraction
+    /// It returns `None` only if an exponent follows a single digit, zeros are between the digits and the point, or there is no decimal
     /// point. If there are at most 16 digits, `lanes` ends with them.
     #[inline(never)]
     fn push_digits(&self, lanes: u8x16, out: &mut String) -> Option<Result<(), AllocError>>

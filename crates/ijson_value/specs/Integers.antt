@@ -8,7 +8,7 @@ abbrev pub HasInteger : Tree → ℤ → Type 0
 HasInteger (number n) z = HasValue n z
 HasInteger _ z = ⊥
 
--- the tree is the number z without a fraction point
+-- the tree is the number z without a decimal point
 abbrev pub IsIntegerTree : Tree → ℤ → Type 0
 IsIntegerTree (number n) z = IsInteger n z
 IsIntegerTree _ z = ⊥

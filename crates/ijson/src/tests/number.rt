@@ -116,7 +116,7 @@ fn is_integer(rt: &impl Abort, number: &INumber, want: Option<i128>) {
     assert!(*rt; number.to_usize() == in_type(want));
 }
 
-/// Returns `true` if a text that spells a number has a fraction point or an exponent.
+/// Returns `true` if a text that spells a number has a decimal point or an exponent.
 fn has_point(text: &str) -> bool {
     text.bytes().any(|byte| matches!(byte, b'.' | b'e' | b'E'))
 }

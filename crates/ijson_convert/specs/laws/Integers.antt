@@ -16,7 +16,7 @@ use Rattle.ijson_number.proofs.storing.IntegerWords.{word_num, word_integer, sig
 use Rattle.ijson_value.specs.Tree.{number}
 use Rattle.ijson_convert.specs.IntegerTree.{integer_number, integer_tree}
 
--- two numbers without a fraction point that have the same value
+-- two numbers without a decimal point that have the same value
 same_integer : (a b : Num) (z : ℤ) → IsInteger a.decimal z → IsInteger b.decimal z → a.decimal ≡ b.decimal
 same_integer a b z h k =
     let p : number_cmp a.decimal (integer z) ≡ Equal = tests_equal _ h.value in

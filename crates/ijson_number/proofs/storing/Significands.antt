@@ -70,7 +70,7 @@ packed_fits true zero h = refl
 packed_fits true (suc m) h = grind (arith, ints)
 packed_fits false m h = grind (arith, ints)
 
--- a number with the fraction point and no fraction is packed with the exponent 0 if its magnitude fits
+-- a number with a decimal point and no fraction is packed with the exponent 0 if its magnitude fits
 whole_common : (negative : Bool) (m : ℕ) → m < 2 ^ 55
     → form_of (stripped_number (signed negative m) (pos 0) true) ≡ packed (signed negative m) (pos 0) true
 whole_common negative m small = elim (cases_eq m 0) [
@@ -109,7 +109,7 @@ deep_form s small low last =
     ∙ left (int_le (negsuc 6) s.exponent && fits_packed (signed s.negative s.magnitude)) _ _
     (ap (λ b. b && fits_packed (signed s.negative s.magnitude)) (not_le (negsuc 6) s.exponent low))
 
--- a common number with the fraction point is packed unchanged
+-- a common number with a decimal point is packed unchanged
 common_form : (negative : Bool) (m : ℕ) (e : ℤ) → m < 2 ^ 55 → negsuc 6 ≤ℤ e → e ≤ℤ pos 0 → (e <ℤ pos 0 → m % 10 ≢ 0)
     → form_of (stripped_number (signed negative m) e true) ≡ packed (signed negative m) e true
 common_form negative m (pos (suc k)) small low high last = absurd (omega (arith, ints))

@@ -129,7 +129,7 @@ module _ (z : ℤ) (word : nat_abs z < 2 ^ 64) where
         let zeros : nat_abs (place -ℤ pos (length kept)) ≡ out.1 = omega (arith, ints) in
         rw (plain, float_text, first, second, point_text, zeros, last_zeros 1) (ap (λ x. x ++ (46 ∷ 48 ∷ [])) with_zeros)
 
-  -- without the fraction point
+  -- without a decimal point
   pub integer_num_text : num_text (stripped_number z (pos 0) false) ≡ integer_text negative magnitude
   integer_num_text =
       elim (zero_or_not z) [
@@ -137,7 +137,7 @@ module _ (z : ℤ) (word : nat_abs z < 2 ^ 64) where
         | inr some ↦ stored_is some false ∙ ap (λ x. minus_text negative ++ x) (with_zeros some)
       ]
 
-  -- with the fraction point
+  -- with a decimal point
   pub whole_num_text : num_text (stripped_number z (pos 0) true) ≡ pointed_text negative magnitude 1 0
   whole_num_text =
       elim (zero_or_not z) [
@@ -162,7 +162,7 @@ pub unsigned_shown : (n : Decimal) (magnitude : ℕ) → n ≡ stripped_number (
 unsigned_shown n magnitude number word = rw (not_lt (pos magnitude) (pos 0) (omega (arith, ints))) at
     (integer_shown n (pos magnitude) (pos magnitude) magnitude number refl refl word)
 
--- a packed number without the fraction point has no exponent
+-- a packed number without a decimal point has no exponent
 pub packed_integer : (bits : ℕ) → word_point bits ≡ false
     → stripped_number (word_mantissa bits) (word_exponent bits) (word_point bits) ≡ stripped_number (word_mantissa bits) (pos 0) false
 packed_integer bits h = rw h

@@ -30,7 +30,7 @@ pub record IsWordInteger (n : Decimal) : Type 0 where
   pub in_word : is_digits (form_of n) ≡ false
   pub integer : n.point ≡ false
 
--- a packed number with the fraction point, whose text has no exponent, and no zeros between its digits and the point
+-- a packed number with a decimal point, whose text has no exponent, and no zeros between its digits and the point
 pub record IsPackedPointed (n : Decimal) : Type 0 where
   pub mantissa : ℤ
   pub exponent : ℤ

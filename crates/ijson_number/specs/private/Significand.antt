@@ -1,4 +1,4 @@
--- A sign, a magnitude, an exponent and a fraction point, as the fast reader returns them.
+-- A sign, a magnitude, an exponent and a decimal point, as the fast reader returns them.
 use Rattle.std.specs.Prelude.{◌≡◌, ◌⊎◌, ℕ, ◌+◌, ◌^◌, ◌<◌, ◌≤◌, Bool, List, ◌++◌, drop, length, nat_lt, take, true, false}
 use Rattle.std.specs.Prelude.{ℤ, pos, negsuc, neg_ℤ, ◌*◌, ◌+ℤ◌, ◌≤ℤ◌}
 use Rattle.std.specs.Int.Digits.{number_from_digits_after}
@@ -80,7 +80,7 @@ pub record IsPower (text : List ℕ) (power : ℤ) (count : ℕ) : Type 0 where
   pub small : IsPowerSmall power
   pub ends : EndsToken (drop count text)
 
--- a magnitude below 10 ^ 19, a small exponent, and a number within the limits; the exponent is 0 without the fraction point, and that of
+-- a magnitude below 10 ^ 19, a small exponent, and a number within the limits; the exponent is 0 without a decimal point, and that of
 -- zero is at least -19
 pub record IsSmall (s : Significand) : Type 0 where
   pub magnitude : s.magnitude < 10 ^ 19

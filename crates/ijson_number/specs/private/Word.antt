@@ -1,5 +1,5 @@
 -- A packed number in one word of 64 bits; this project's own. Bits 8 to 63 are the mantissa in two's complement, bits
--- 4 to 7 the exponent plus 7, or 15 for a number without the fraction point, and bits 0 to 3 the value 8.
+-- 4 to 7 the exponent plus 7, or 15 for a number without a decimal point, and bits 0 to 3 the value 8.
 use Rattle.std.specs.Prelude.{ℕ, ◌/◌, ◌%◌, ◌^◌, nat_eq, nat_lt, ℤ, pos, ◌-ℤ◌, Bool, true, false, not}
 
 abbrev pub word_mantissa : ℕ → ℤ

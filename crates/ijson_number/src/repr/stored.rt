@@ -23,14 +23,14 @@ use itoa::write_digits;
 use std::alloc::AllocError;
 use std::simd::prelude::*;
 
-/// Bits 8 to 63 are the mantissa in two's complement, bits 4 to 7 the exponent plus 7, or 15 for a number without the
-/// fraction point, and bits 0 to 3 the value 8.
+/// Bits 8 to 63 are the mantissa in two's complement, bits 4 to 7 the exponent plus 7, or 15 for a number without a
+/// decimal point, and bits 0 to 3 the value 8.
 #[derive(Clone, Copy)]
 pub struct Word {
     pub bits: u64,
 }
 
-/// Bits 4 to 7 of a number without the fraction point.
+/// Bits 4 to 7 of a number without a decimal point.
 const NO_POINT: u64 = 15;
 
 /// One past the maximum mantissa of a packed number.
@@ -62,7 +62,7 @@ impl Word {
         }
     }
 
-    /// Creates the word of an integer without the fraction point.
+    /// Creates the word of an integer without a decimal point.
     pub fn integer(mantissa: i64) -> Word
         requires { IsTrue (fits_packed mantissa) }
         ensures mantissa { word_mantissa result.bits ≡ mantissa }
@@ -73,7 +73,7 @@ impl Word {
         Word::from_code(mantissa, NO_POINT)
     }
 
-    /// Creates the word of a number with the fraction point.
+    /// Creates the word of a number with a decimal point.
     pub fn pointed(mantissa: i64, exponent: i8) -> Word
         requires mantissa { IsTrue (fits_packed mantissa) }
         requires low { negsuc 6 ≤ℤ exponent }
@@ -111,7 +111,7 @@ impl Word {
         if code == NO_POINT { 0 } else { code as i8 - 7 }
     }
 
-    /// Whether the number has the fraction point.
+    /// Whether the number has a decimal point.
     pub fn point(self) -> bool
         ensures { result ≡ word_point self.bits }
     {
@@ -291,7 +291,7 @@ impl Stored {
     }
 }
 
-/// The sign, the canonical digits, the exponent and the fraction point of a number.
+/// The sign, the canonical digits, the exponent and the decimal point of a number.
 ///
 /// The digits are borrowed from the number, or from a buffer.
 #[derive(Clone, Copy)]
