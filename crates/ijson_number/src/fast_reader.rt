@@ -140,7 +140,7 @@ fn read_mantissa(text: &[u8]) -> Option<(Front, &[u8])>
     Some((front, rest))
 }
 
-/// Whether the text continues with a digit or a letter, so that no number ends before it.
+/// Returns `true` if the text continues with a digit or a letter, so no number ends before it.
 #[inline(always)]
 fn continues_token(bytes: &[u8]) -> bool
     ensures on { IsTrue result → EndsToken bytes.now → ⊥ }

@@ -147,7 +147,7 @@ pub fn read_spelling(text: &[u8]) -> Result<(Spelling<'_>, &[u8]), &[u8]>
     Ok((spelling, rest))
 }
 
-/// Whether the whole text spells a number, however large its exponent.
+/// Returns `true` if the whole text spells a number, however large its exponent.
 pub fn is_spelling(text: &[u8]) -> bool
     ensures { IsTrue result ↔ ((n : Decimal) × Spells text.now n) }
 {

@@ -24,7 +24,7 @@ pub fn split_sign(text: &[u8]) -> (bool, &[u8])
     }
 }
 
-/// Whether the digits are a whole part: one digit, or more without a leading zero.
+/// Returns `true` if the digits are a whole part: one digit, or more without a leading zero.
 pub fn is_whole(digits: &[u8]) -> bool
     requires { AllDigits digits.now }
     ensures { IsTrue result ↔ IsWhole digits.now }

@@ -182,7 +182,7 @@ impl INumber {
         }
     }
 
-    /// Whether the number was written with a decimal point or an exponent.
+    /// Returns `true` if the number was written with a decimal point or an exponent.
     ///
     /// `2.0` and `2e0` were, `2` was not.
     pub fn has_decimal_point(&self) -> bool

@@ -114,7 +114,7 @@ impl fmt::Display for Pointed<'_> {
     }
 }
 
-/// Whether a number with a decimal point is written with an exponent.
+/// Returns `true` if a number with a decimal point is written with an exponent.
 pub fn is_scientific(place: i128, exponent: i32) -> bool
     ensures { result ≡ (int_le place (negsuc 5) || int_lt (pos 20) exponent) }
 {

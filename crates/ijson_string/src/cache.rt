@@ -63,14 +63,15 @@ impl<S: BuildHasher> StringCache<S> {
         self.texts.texts().len()
     }
 
-    /// Whether the cache has no string.
+    /// Returns `true` if the cache has no string.
     pub fn is_empty(&self) -> bool
         ensures { result ≡ (set.len self.now.texts == 0) }
     {
         self.len() == 0
     }
 
-    /// Whether `text` is in the cache, which has no string of up to 7 bytes. Expected linear in the length.
+    /// Returns `true` if the cache has `text`; it has no string of up to 7 bytes. Expected linear in the
+    /// length.
     pub fn contains(&self, text: &str) -> bool
         ensures exact { result ≡ set.contains self.now.texts text.now }
         ensures short { length text.now ≤ 7 → result ≡ false }

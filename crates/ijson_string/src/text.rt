@@ -162,14 +162,14 @@ impl IString {
         self.as_str().len()
     }
 
-    /// Whether the length is 0.
+    /// Returns `true` if the length is 0.
     pub fn is_empty(&self) -> bool
         ensures { result ≡ (length self.now == 0) }
     {
         self.len() == 0
     }
 
-    /// Whether the bytes are those of `text`. If the lengths differ, no byte is read.
+    /// Returns `true` if the string is `text`. If the lengths differ, no byte is read.
     pub fn eq_str(&self, text: &str) -> bool
         ensures { IsTrue result ↔ (self.now ≡ text.now) }
     {

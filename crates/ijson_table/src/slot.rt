@@ -54,7 +54,7 @@ impl Slot {
         }
     }
 
-    /// Returns whether the slot is empty.
+    /// Returns `true` if the slot is empty.
     pub fn is_empty(self) -> bool
         ensures { IsTrue result ↔ (position_in self ≡ None) }
     {

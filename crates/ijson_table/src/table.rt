@@ -305,7 +305,7 @@ impl<V, H: KeyHash> Table<V, H> {
         self.pairs.iter()
     }
 
-    /// Returns whether the table has no entries.
+    /// Returns `true` if the table has no entries.
     pub fn is_empty(&self) -> bool
         ensures { IsTrue result ↔ (self.now.store.pairs ≡ []) }
     {
@@ -349,7 +349,7 @@ impl<V, H: KeyHash> Table<V, H> {
         self.find(H::hash(key), key, &mut Looks::new()).0.found()
     }
 
-    /// Returns whether the table has a key.
+    /// Returns `true` if the table has `key`.
     ///
     /// # Cost
     ///

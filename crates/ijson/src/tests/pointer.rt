@@ -81,7 +81,7 @@ enum Way {
 
 static WAYS: [Way; 3] = [Way::Value, Way::Opened, Way::Method];
 
-/// Writes true at a pointer. Returns whether the reason against it, if any, is the one given.
+/// Writes true at a pointer. Returns `true` if `why` is the reason against it, if any.
 fn puts_true(value: &mut IValue, pointer: &str, why: Option<Unresolved>, way: Way) -> bool {
     match way {
         Way::Value => put_true(value, pointer) == why,

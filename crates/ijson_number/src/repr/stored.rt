@@ -36,7 +36,7 @@ const NO_POINT: u64 = 15;
 /// One past the maximum mantissa of a packed number.
 pub const PACKED_END: i64 = 1 << 55;
 
-/// Whether a mantissa fits a packed number.
+/// Returns `true` if a mantissa fits a packed number.
 pub fn is_packed_mantissa(mantissa: i128) -> bool
     ensures { result ≡ fits_packed mantissa }
 {
@@ -111,7 +111,7 @@ impl Word {
         if code == NO_POINT { 0 } else { code as i8 - 7 }
     }
 
-    /// Whether the number has a decimal point.
+    /// Returns `true` if the number has a decimal point.
     pub fn point(self) -> bool
         ensures { result ≡ word_point self.bits }
     {
@@ -277,7 +277,7 @@ pub enum Stored {
 impl Stored {
     ghost use Rattle.ijson_number.specs.private.Stored.{IsList};
 
-    /// Whether both are the same word.
+    /// Returns `true` if both are the same word.
     pub fn is_same_word(&self, other: &Stored) -> bool
         ensures same { IsTrue result → self.now ≡ other.now }
         ensures word { IsFalse result → self.now ≡ other.now → IsList self.now }

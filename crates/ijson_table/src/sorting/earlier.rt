@@ -45,7 +45,7 @@ pub fn earlier_positions<V>(
     Ok(earlier)
 }
 
-/// Returns whether two entries have the same key and the same hash.
+/// Returns `true` if two entries have the same key and the same hash.
 fn has_same_key<V>(pairs: &[(IString, V)], first: Slot, second: Slot) -> bool
     ensures { IsTrue result ↔ ((first.hash ≡ second.hash)
         × (entry_key (keys_of pairs.now) first ≡ entry_key (keys_of pairs.now) second)) }

@@ -34,7 +34,7 @@ fn put_two(object: &mut IObject, first: &IString, second: &IString) -> Result<()
     Ok(())
 }
 
-/// Keeps the true one of two entries, and returns whether an iterator yields one entry and then none.
+/// Keeps the true one of two entries; returns `true` if an iterator yields one entry and then none.
 fn keep_true(object: &mut IObject, first: &IString, second: &IString) -> (bool, bool)
     requires { object.old.pairs ≡ (first.now, boolean_value false) ∷ (second.now, boolean_value true) ∷ [] }
     ensures list { object.new.pairs ≡ (second.now, boolean_value true) ∷ [] }
