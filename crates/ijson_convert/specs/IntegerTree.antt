@@ -1,4 +1,4 @@
--- An integer as a tree: the number of its value without a decimal point, with the canonical significand. This project's own.
+-- An integer as a tree: the number of its value without a decimal point, with the canonical significand.
 use Rattle.std.specs.Prelude.{ℤ, pos, false}
 use Rattle.ijson_number.specs.Decimal.{Decimal}
 use Rattle.ijson_number.specs.Stripped.{stripped_number}

@@ -1,4 +1,4 @@
--- Interning strings in order: each of more than 7 bytes is added to the cache. This project's own.
+-- Interning strings in order: each of more than 7 bytes is added to the cache.
 use Rattle.std.specs.Prelude.{◌≡◌, ℕ, List, [], ◌∷◌, ◌++◌}
 use Rattle.ijson_string.specs.Cache.{Texts, interned}
 

@@ -1,4 +1,4 @@
--- A tree that is rejected for no reason. This project's own.
+-- A tree that is rejected for no reason.
 use Rattle.ijson_value.specs.Tree.{Tree}
 use Rattle.ijson_convert.specs.declared.convert_error.ConvertError.{ConvertError}
 

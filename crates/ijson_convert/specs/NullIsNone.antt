@@ -1,5 +1,4 @@
 -- Null is read as None, never as Some of a value whose tree is null. So of two values of an option type with the tree null, None is read.
--- This project's own.
 use Rattle.std.specs.Prelude.{◌≡◌, Option, None, Some, ⊤}
 use Rattle.ijson_value.specs.Tree.{Tree, null}
 

@@ -1,4 +1,4 @@
--- An option as a tree: null for None. This project's own.
+-- An option as a tree: null for None.
 use Rattle.std.specs.Prelude.{Option, None, Some}
 use Rattle.ijson_value.specs.Tree.{Tree, null}
 

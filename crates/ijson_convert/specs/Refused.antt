@@ -1,5 +1,5 @@
 -- Why a tree is not read as a Rust value, by type: another kind is the wrong kind, a number that is not whole or not in range is out of
--- range, and a list or a map fails for its first rejected part. This project's own.
+-- range, and a list or a map fails for its first rejected part.
 use Rattle.std.specs.Prelude.{◌≡◌, ◌⊎◌, ◌<◌, ℕ, ℤ, pos, FitsSigned}
 use Rattle.std.specs.Int.{Width}
 use Rattle.ijson_number.specs.Integers.{HasValue}

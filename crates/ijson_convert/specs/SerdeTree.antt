@@ -1,5 +1,5 @@
 -- A value of `serde_json` as a tree: null, Booleans, numbers that fit an i64 or a u64 (without a decimal point), strings, lists, and
--- entries in the order of their keys. A value that contains any other number has no tree. This project's own.
+-- entries in the order of their keys. A value that contains any other number has no tree.
 use Rattle.std.specs.Prelude.{◌≡◌, ◌<◌, ◌^◌, pos, ⊤, FitsSigned}
 use Rattle.std.specs.Int.{w64}
 use Rattle.serde_json.specs.Data as serde

@@ -1,5 +1,4 @@
 -- A value after a mutable borrow at a pointer ends, as a value: the last value written is at the pointer, and nothing else has changed.
--- This project's own.
 use Rattle.std.specs.Prelude.{◌≡◌, ℕ, List, Option, Result, Ok, Err, OnSome, ⊤}
 use Rattle.std.specs.Borrow.{follows_so, GName, LendsSo, MutBor, Fml, RattleType}
 use Rattle.std.specs.Option.{ghost_name_of}

@@ -1,5 +1,4 @@
--- A value after a mutable borrow at a pointer ends: the last value written is at the pointer, and nothing else has changed. This project's
--- own.
+-- A value after a mutable borrow at a pointer ends: the last value written is at the pointer, and nothing else has changed.
 use Rattle.std.specs.Prelude.{◌≡◌, ℕ, List, Option, Some, None, Result}
 use Rattle.std.specs.Borrow.{LendsSoOk, MutBor, Fml}
 use Rattle.ijson_value.specs.NodeValue.{node_value}

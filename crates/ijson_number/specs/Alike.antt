@@ -1,4 +1,4 @@
--- Indistinguishable numbers: they have the same value and decimal point. This project's own.
+-- Indistinguishable numbers: they have the same value and decimal point.
 use Rattle.std.specs.Prelude.{◌≡◌, IsTrue}
 use Rattle.ijson_number.specs.Decimal.{Decimal}
 use Rattle.ijson_number.specs.Order.{number_eq}

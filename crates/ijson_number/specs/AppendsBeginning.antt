@@ -1,4 +1,4 @@
--- The state after a failed append. This project's own.
+-- The state after a failed append.
 use Rattle.std.specs.Prelude.{◌≡◌, ℕ, List, ◌++◌}
 
 -- a beginning of `text`, possibly none or all of it, was appended to `before`

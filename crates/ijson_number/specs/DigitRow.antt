@@ -1,4 +1,4 @@
--- The digits that a comparison of numbers reads. This project's own.
+-- The digits that a comparison of numbers reads.
 use Rattle.std.specs.Prelude.{◌≡◌, ◌≢◌, ℕ, ℤ, pos, ◌+ℤ◌, ◌*◌, min, length}
 use Rattle.std.specs.Ordering.{int_cmp}
 use Rattle.ijson_number.specs.Decimal.{Decimal}

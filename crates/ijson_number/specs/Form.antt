@@ -1,4 +1,4 @@
--- The representation of a number. This project's own.
+-- The representation of a number.
 use Rattle.std.specs.Prelude.{ℕ, zero, suc, ◌^◌, ℤ, pos, negsuc, neg_ℤ, nat_abs, ◌*ℤ◌, ◌-ℤ◌, int_lt, int_le, Bool, true, false, ◌&&◌, List}
 use Rattle.ijson_number.specs.Decimal.{Decimal}
 use Rattle.ijson_number.specs.StrippedDigits.{stripped_digits}

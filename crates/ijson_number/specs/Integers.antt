@@ -1,4 +1,4 @@
--- Whole numbers as decimals. This project's own.
+-- Whole numbers as decimals.
 use Rattle.std.specs.Prelude.{◌≡◌, ℤ, pos, false, IsTrue}
 use Rattle.ijson_number.specs.Decimal.{Decimal}
 use Rattle.ijson_number.specs.Order.{number_eq}

@@ -1,4 +1,4 @@
--- The order of numbers by value; the decimal point is ignored. This project's own.
+-- The order of numbers by value; the decimal point is ignored.
 use Rattle.std.specs.Prelude.{◌^◌, ℤ, pos, nat_abs, ◌-ℤ◌, ◌*ℤ◌, Bool}
 use Rattle.std.specs.Int.{int_min}
 use Rattle.std.specs.declared.cmp.Ordering.{Ordering}

@@ -1,4 +1,4 @@
--- Why a text is rejected. This project's own.
+-- Why a text is rejected.
 use Rattle.std.specs.Prelude.{◌≡◌, ℕ, List, true}
 use Rattle.ijson_number.specs.Decimal.{Decimal}
 use Rattle.ijson_number.specs.Num.{IsNum}

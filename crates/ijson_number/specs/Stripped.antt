@@ -1,5 +1,4 @@
--- The number of a mantissa of at most 20 digits and an exponent, with trailing zeros of the mantissa stripped. This
--- project's own.
+-- The number of a mantissa of at most 20 digits and an exponent, with trailing zeros of the mantissa stripped.
 use Rattle.std.specs.Prelude.{ℕ, zero, suc, ◌/◌, ◌%◌, nat_eq, nat_abs, int_lt, ℤ, pos, ◌+ℤ◌, Bool, true, false}
 use Rattle.ijson_number.specs.Decimal.{Decimal}
 use Rattle.ijson_number.specs.Strips.{signed}

@@ -1,4 +1,4 @@
--- The decimal digits of a mantissa. This project's own.
+-- The decimal digits of a mantissa.
 use Rattle.std.specs.Prelude.{ℕ, zero, suc, ◌/◌, ◌%◌, nat_eq, nat_abs, true, false, List, [], ◌∷◌, ◌++◌}
 use Rattle.ijson_number.specs.Decimal.{Decimal}
 

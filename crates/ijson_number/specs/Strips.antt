@@ -1,4 +1,4 @@
--- Stripping the trailing zeros of a mantissa. This project's own.
+-- Stripping the trailing zeros of a mantissa.
 use Rattle.std.specs.Prelude.{◌≡◌, ◌⊎◌, ℕ, ◌^◌, ℤ, pos, neg_ℤ, ◌*ℤ◌, ◌+ℤ◌, Bool, cond}
 use Rattle.ijson_number.specs.Decimal.{Decimal, IsPlain}
 

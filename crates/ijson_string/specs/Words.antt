@@ -1,5 +1,4 @@
 -- The words that a string feeds a hasher: 3, its length in bytes, and each byte. Each word is one `write_u64`.
--- This project's own.
 use Rattle.std.specs.Prelude.{ℕ, List, ◌∷◌, length}
 
 abbrev pub text_words : List ℕ → List ℕ

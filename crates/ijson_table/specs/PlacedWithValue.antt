@@ -1,4 +1,4 @@
--- A store with slots after the value at an index is replaced. This project's own.
+-- A store with slots after the value at an index is replaced.
 use Rattle.std.specs.Prelude.{ℕ}
 use Rattle.ijson_table.specs.Placed.{Placed}
 use Rattle.ijson_table.specs.StoreWithValue.{store_with_value}

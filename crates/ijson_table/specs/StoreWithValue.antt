@@ -1,4 +1,4 @@
--- A store after the value at an index is replaced. This project's own.
+-- A store after the value at an index is replaced.
 use Rattle.std.specs.Prelude.{ℕ}
 use Rattle.std.proofs.Common.{sym, subst}
 use Rattle.ijson_table.specs.Store.{Store, IsDistinct, with_value}

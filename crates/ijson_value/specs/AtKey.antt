@@ -1,4 +1,4 @@
--- The entry of a key, and a list of entries without it. This project's own.
+-- The entry of a key, and a list of entries without it.
 use Rattle.std.specs.Prelude.{ℕ, List, Option, Some, None, slice_get, option_and_then}
 use Rattle.ijson_table.specs.Store.{at, swap_out, shift_out, with_key}
 

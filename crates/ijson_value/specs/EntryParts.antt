@@ -1,4 +1,4 @@
--- The parts of an `Entry`: the object it borrows, its key, and the value of the key. This project's own.
+-- The parts of an `Entry`: the object it borrows, its key, and the value of the key.
 use Rattle.std.specs.Prelude.{ℕ, List, [], Option, None, get_or, slice_get, option_map}
 use Rattle.std.specs.Borrow.{MutBor}
 use Rattle.ijson_table.specs.Store.{Store, keys_of}

@@ -1,5 +1,5 @@
 -- The `Entry` that a key has in an object, and the object in it: an existing key needs no capacity; for a missing one there is capacity for
--- one more entry. This project's own.
+-- one more entry.
 use Rattle.std.specs.Prelude.{◌≡◌, ◌<◌, ◌⊎◌, ℕ, List, None, IsSome, length}
 use Rattle.ijson_table.specs.Growth.{Grown, Ungrown}
 use Rattle.ijson_table.specs.Store.{Store, at, lookup}

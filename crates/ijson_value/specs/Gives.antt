@@ -1,4 +1,4 @@
--- The elements that a source yielded, from the iterator that `into_iter` made of it. This project's own.
+-- The elements that a source yielded, from the iterator that `into_iter` made of it.
 use Rattle.std.specs.Prelude.{◌≡◌, List, Option, Some}
 use Rattle.std.specs.Iterator.{Drains, YieldsThen}
 

@@ -1,4 +1,4 @@
--- A tree without an object at any depth. This project's own.
+-- A tree without an object at any depth.
 use Rattle.ijson_value.specs.Tree.{Tree, array, object, Items, no_items, item}
 
 abbrev mutual

@@ -1,4 +1,4 @@
--- Entries inserted in order, each with the capacity it needs. This project's own.
+-- Entries inserted in order, each with the capacity it needs.
 use Rattle.std.specs.Prelude.{◌≡◌, ℕ, List, [], ◌∷◌, Option, Ok}
 use Rattle.ijson_table.specs.Inserts.{Inserts}
 

@@ -1,4 +1,4 @@
--- Whole numbers as values. This project's own.
+-- Whole numbers as values.
 use Rattle.std.specs.Prelude.{ℤ}
 use Rattle.ijson_number.specs.Integers.{HasValue, IsInteger}
 use Rattle.ijson_value.specs.Tree.{Tree, number}

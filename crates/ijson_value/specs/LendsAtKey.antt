@@ -1,5 +1,4 @@
--- The object after a mutable borrow of a key's value ends: the key has the last value written, and nothing else has changed. This project's
--- own.
+-- The object after a mutable borrow of a key's value ends: the key has the last value written, and nothing else has changed.
 use Rattle.std.specs.Prelude.{◌≡◌, ℕ, List, Option, Some, None, Result, length}
 use Rattle.std.specs.Borrow.{Lends, LendsIf, LendsSoOk, MutBor, Fml}
 use Rattle.ijson_table.specs.Growth.{Grown}

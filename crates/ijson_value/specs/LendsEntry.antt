@@ -1,4 +1,4 @@
--- The object or the `Entry` after a mutable borrow of its value ends: the key has the last value written. This project's own.
+-- The object or the `Entry` after a mutable borrow of its value ends: the key has the last value written.
 use Rattle.std.specs.Prelude.{◌≡◌, [], Result}
 use Rattle.std.specs.Borrow.{follows, RestsIfErr, MutBor, Fml}
 use mir.Syntax.{named}

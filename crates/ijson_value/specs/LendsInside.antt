@@ -1,5 +1,5 @@
 -- A value after a mutable borrow of the value one step inside ends, as a value: the last value written is there, and nothing else has
--- changed. This project's own.
+-- changed.
 use Rattle.std.specs.Prelude.{◌≡◌, Option, OnSome}
 use Rattle.std.specs.Borrow.{LendsSo, MutBor, Fml}
 use Rattle.ijson_value.specs.Step.{Step, tree_with}

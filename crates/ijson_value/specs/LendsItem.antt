@@ -1,5 +1,5 @@
 -- An array after a mutable borrow of an element ends: the last value written is at its index; the other elements and the capacity are
--- unchanged. This project's own.
+-- unchanged.
 use Rattle.std.specs.Prelude.{ℕ, Option, set}
 use Rattle.std.specs.Borrow.{Lends, LendsIf, MutBor, Fml}
 use Rattle.ijson_value.specs.WellFormed.{WellFormed}

@@ -1,5 +1,5 @@
 -- An array after a mutable borrow of its elements as a slice ends: the elements are those last written, their number and the capacity are
--- unchanged. This project's own.
+-- unchanged.
 use Rattle.std.specs.Prelude.{List, ◌++◌, length, take, drop}
 use Rattle.std.specs.Borrow.{Lends, MutBor, Array, Fml, follows}
 use Rattle.std.specs.Slice.Iter.{iter_mut_name}

@@ -1,5 +1,4 @@
--- An object after a mutable borrow of a value with its key ends: the key has the last value written, and nothing else has changed. This
--- project's own.
+-- An object after a mutable borrow of a value with its key ends: the key has the last value written, and nothing else has changed.
 use Rattle.std.specs.Prelude.{ℕ, List, Option, Some, None}
 use Rattle.std.specs.Borrow.{follows_if, GName, Bor, MutBor, Fml}
 use mathlib.Core.Option as maybe

@@ -1,5 +1,4 @@
--- A value after a mutable borrow of its part ends: the value of the part last written, or the same value if nothing was lent. This
--- project's own.
+-- A value after a mutable borrow of its part ends: the value of the part last written, or the same value if nothing was lent.
 use Rattle.std.specs.Prelude.{ℕ, Bool, List, Option}
 use Rattle.std.specs.Borrow.{Lends, LendsIf, MutBor, Fml, bool}
 use Rattle.ijson_number.specs.Num.{Num}

@@ -1,5 +1,5 @@
 -- A `Destructured` after a mutable borrow of the value one step inside ends: the last value written is there, and nothing else has changed.
--- `specs/laws/Steps.antt` proves that its tree is then `tree_with`. This project's own.
+-- `specs/laws/Steps.antt` proves that its tree is then `tree_with`.
 use Rattle.std.specs.Prelude.{◌≡◌, ℕ, List, Option, Result}
 use Rattle.std.specs.Borrow.{Lends, LendsIf, LendsSoOk, MutBor, Fml}
 use Rattle.ijson_table.specs.Store.{Store}

@@ -1,5 +1,5 @@
 -- An object after a mutable borrow of a value ends: the last value written is at its index; the keys, the other values and the capacity are
--- unchanged. This project's own.
+-- unchanged.
 use Rattle.std.specs.Prelude.{ℕ, Option}
 use Rattle.std.specs.Borrow.{Lends, LendsIf, MutBor, Fml}
 use Rattle.ijson_table.specs.Store.{Store}

@@ -1,4 +1,4 @@
--- That `retain` may call its closure on each entry it visits, after the calls before. This project's own.
+-- That `retain` may call its closure on each entry it visits, after the calls before.
 use Rattle.std.specs.Prelude.{◌≡◌, ℕ, zero, suc, ◌+◌, Bool, List, slice_get, Some, if◌then◌else◌}
 use Rattle.ijson_table.specs.Store.{with_value, swap_out}
 

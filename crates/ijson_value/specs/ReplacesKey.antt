@@ -1,4 +1,4 @@
--- The result and the effect of replacing a key. This project's own.
+-- The result and the effect of replacing a key.
 use Rattle.std.specs.Prelude.{◌≡◌, ◌≢◌, ℕ, List, Result, Ok, Err, None, IsSome}
 use Rattle.ijson_table.specs.Store.{at}
 use Rattle.ijson_value.specs.AtKey.{renamed_key}

@@ -1,4 +1,4 @@
--- The model of an array: its elements and its capacity. This project's own.
+-- The model of an array: its elements and its capacity.
 use Rattle.std.specs.Prelude.{ℕ, List}
 use Rattle.ijson_value.specs.WellFormed.{WellFormed}
 

@@ -1,4 +1,4 @@
--- The model of a value: a tree whose numbers are Nums and whose objects have distinct keys. This project's own.
+-- The model of a value: a tree whose numbers are Nums and whose objects have distinct keys.
 use Rattle.std.specs.Prelude.{ℕ, List, map}
 use Rattle.ijson_number.specs.Num.{IsNum}
 use Rattle.ijson_table.specs.Store.{IsDistinct}

@@ -1,4 +1,4 @@
--- An object and an `Entry` after a value is written for the key. This project's own.
+-- An object and an `Entry` after a value is written for the key.
 use Rattle.std.specs.Prelude.{◌≡◌, ℕ, List, [], ◌∷◌, ◌++◌}
 use Rattle.ijson_table.specs.Store.{Store, put}
 use Rattle.ijson_table.specs.StoreWithValue.{store_with_value}

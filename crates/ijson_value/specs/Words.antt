@@ -1,5 +1,5 @@
 -- The words that a value feeds a hasher, by its tree. Each word is one `write_u64`. Those of an object do not depend on the order of its
--- entries. This project's own.
+-- entries.
 use Rattle.std.specs.Prelude.{ℕ, ◌+◌, ◌%◌, ◌^◌, cond, List, [], ◌∷◌, ◌++◌}
 use Rattle.ijson_number.specs.Words.{number_words}
 use Rattle.ijson_string.specs.Words.{text_words}

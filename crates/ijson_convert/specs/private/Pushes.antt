@@ -1,4 +1,4 @@
--- Appending elements of these trees to an array. This project's own.
+-- Appending elements of these trees to an array.
 use Rattle.std.specs.Prelude.{◌≡◌, List, ◌++◌, map, Result, OnOk, IfErr}
 use Rattle.ijson_string.specs.Cache.{Texts}
 use Rattle.ijson_value.specs.Tree.{Tree, items_of}

@@ -1,4 +1,4 @@
--- The leading numbers that are read in one pass. This project's own.
+-- The leading numbers that are read in one pass.
 use Rattle.std.specs.Prelude.{◌≡◌, ◌≢◌, ◌⊎◌, ℕ, ◌+◌, ◌≤◌, Bool, false, List, [], ◌∷◌, ◌++◌, length}
 use Rattle.std.specs.Char.{is_ascii_alphanumeric}
 use Rattle.ijson_number.specs.Grammar.{IsDigit, IsDigits, IsFraction, IsMinus, IsWhole, Parts}

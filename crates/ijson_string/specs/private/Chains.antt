@@ -1,4 +1,4 @@
--- Chains of indices: from each bucket to its newest string, and from each string to the next older one. This project's own.
+-- Chains of indices: from each bucket to its newest string, and from each string to the next older one.
 use Rattle.std.specs.Prelude.{◌≡◌, ℕ, ◌+◌, ◌*◌, ◌/◌, ◌%◌, ◌^◌, ◌<◌, ◌==◌, List, [], ◌∷◌, length, get_or, take, if◌then◌else◌}
 
 -- a hash in 32 bits: the upper half of the product of the hash and an odd number, modulo 2^64

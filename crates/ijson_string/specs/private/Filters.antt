@@ -1,4 +1,4 @@
--- The Bloom filter of each bucket, of 32 bits, of which a hash sets up to three. This project's own.
+-- The Bloom filter of each bucket, of 32 bits, of which a hash sets up to three.
 use Rattle.std.specs.Prelude.{◌≡◌, ℕ, ◌/◌, ◌%◌, ◌^◌, ◌==◌, Bool, true, List, length, get_or, slice_set}
 use Rattle.std.specs.Int.Bits.{bit_or}
 use Rattle.std.specs.List.{AllByRecursion}

@@ -1,4 +1,4 @@
--- Which string followed which, among those that repeat: each slot has an index and a length. This project's own.
+-- Which string followed which, among those that repeat: each slot has an index and a length.
 use Rattle.std.specs.Prelude.{◌≡◌, ◌-◌, ℕ, ◌%◌, ◌^◌, get_or, min, replicate, slice_set}
 use Rattle.ijson_string.specs.declared.table.followers.Follower.{Follower}
 use Rattle.ijson_string.specs.declared.table.followers.Followers.{Followers}

@@ -1,4 +1,4 @@
--- The invariant of a cache: each string once, with its hash. This project's own.
+-- The invariant of a cache: each string once, with its hash.
 use Rattle.std.specs.Prelude.{◌≡◌, ℕ, List, length}
 use Rattle.std.specs.Ordering.{nat_cmp}
 use Rattle.std.specs.Cmp.Lexicographic.{slice_cmp}

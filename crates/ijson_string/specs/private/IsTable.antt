@@ -1,4 +1,4 @@
--- The links and buckets of a table. This project's own.
+-- The links and buckets of a table.
 use Rattle.std.specs.Prelude.{◌≡◌, ℕ, ◌*◌, ◌<◌, ◌≤◌, ◌^◌, List, length, map, slice_set}
 use Rattle.ijson_string.specs.declared.table.chains.Bucket.{Bucket}
 use Rattle.ijson_string.specs.declared.table.chains.Link.{Link}

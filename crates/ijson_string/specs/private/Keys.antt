@@ -1,4 +1,4 @@
--- The keys of a cache: strings with their hashes of 32 bits. This project's own.
+-- The keys of a cache: strings with their hashes of 32 bits.
 use Rattle.std.specs.Prelude.{◌≡◌, ◌&&◌, ◌<◌, ℕ, Bool, List, [], ◌∷◌, get_or, length, map, nat_eq}
 use Rattle.std.specs.List.{AllByRecursion}
 use Rattle.std.specs.Str.{bytes_eq}

@@ -1,4 +1,4 @@
--- The bytes of a stored `IString`. This project's own.
+-- The bytes of a stored `IString`.
 use Rattle.std.specs.Prelude.{ℕ, ◌<◌, ◌≤◌, List, length}
 use Rattle.std.specs.Rc.{rc_value, rc_str_bytes}
 use Rattle.ijson_string.specs.declared.text.Stored.{Stored}

@@ -1,4 +1,4 @@
--- The value of a `TextTable`, and how it grows. This project's own.
+-- The value of a `TextTable`, and how it grows.
 use Rattle.std.specs.Prelude.{ℕ, ◌*◌, List, [], max, nat_lt, if◌then◌else◌}
 use Rattle.ijson_string.specs.declared.table.followers.Followers.{Followers}
 use Rattle.ijson_string.specs.private.Followers.{no_followers}
