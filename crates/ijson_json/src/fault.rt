@@ -49,7 +49,7 @@ pub(crate) enum Fault {
     Memory,
 }
 
-/// Drops the value that could not be stored.
+/// Converts to `Memory` and drops the value.
 impl<T: Drop> From<AllocFailed<T>> for Fault {
     ghost from_gives = { λ _ fault. fault ≡ Memory };
 

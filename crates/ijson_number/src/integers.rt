@@ -49,7 +49,7 @@ impl INumber {
     }
 }
 
-/// The integer 0.
+/// Creates the integer 0.
 impl Default for INumber {
     ghost is_default = { λ n. IsInteger n.decimal (pos 0) };
 

@@ -34,7 +34,7 @@ pub enum ParseNumberError {
     Memory,
 }
 
-/// Returns `Memory`.
+/// Converts to `Memory`.
 impl From<AllocError> for ParseNumberError {
     ghost use Rattle.ijson_number.specs.declared.number.ParseNumberError.TheVariants.{Memory};
 
@@ -62,7 +62,7 @@ pub enum ReadNumberError {
     Memory,
 }
 
-/// Returns `Memory`.
+/// Converts to `Memory`.
 impl From<AllocError> for ReadNumberError {
     ghost use Rattle.ijson_number.specs.declared.number.ReadNumberError.TheVariants.{Memory};
 
@@ -227,7 +227,7 @@ pub enum Form<'a> {
 impl INumber {
     ghost use Rattle.ijson_number.specs.FormValue.{form_value};
 
-    /// The representation, as `form` returns it.
+    /// Returns the representation, as `form` does.
     fn form_of_stored(&self) -> Form<'_>
         ensures { form_value result ≡ form_of self.now.decimal }
     {

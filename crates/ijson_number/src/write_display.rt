@@ -23,7 +23,7 @@ impl fmt::Display for Zeros {
     }
 }
 
-/// The text of at most 20 digits, written into `buffer`.
+/// Returns the text of at most 20 digits, written into `buffer`.
 pub fn run_text<'a>(digits: &[u8], buffer: &'a mut [u8; MAX_DIGITS]) -> &'a str
     requires below_ten { All (λ d. d < 10) digits.now }
     requires short { length digits.now ≤ 20 }

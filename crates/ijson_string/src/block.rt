@@ -27,7 +27,7 @@ impl<const N: usize> Model for Block<N> {
 }
 
 impl<const N: usize> Block<N> {
-    /// A block with `text`, copied as its `first` first bytes and its `last` last ones, which may overlap.
+    /// Creates a block with `text` from its first `first` and last `last` bytes, which may overlap.
     ///
     /// Both sizes are constants of the caller, so each copy is a few moves instead of a call.
     #[inline(always)]
@@ -50,7 +50,7 @@ impl<const N: usize> Block<N> {
         }
     }
 
-    /// A copy of the block. (No `Copy`: a struct with a model has none.)
+    /// Copies the block. (A struct with a model cannot be `Copy`.)
     pub(crate) fn copy(&self) -> Block<N>
         ensures { result ≡ self.now }
     {
@@ -61,7 +61,7 @@ impl<const N: usize> Block<N> {
         }
     }
 
-    /// The string.
+    /// Returns the string.
     pub(crate) fn as_str(&self) -> &str
         ensures { result.now ≡ self.now }
     {
@@ -70,7 +70,7 @@ impl<const N: usize> Block<N> {
 }
 
 impl Block<7> {
-    /// A block with `text`.
+    /// Creates a block with `text`.
     #[inline(always)]
     pub(crate) fn inline(text: &str) -> Block<7>
         requires { length text.now ≤ 7 }
@@ -84,7 +84,7 @@ impl Block<7> {
         }
     }
 
-    /// The length, and the string padded with NULs to 7 bytes.
+    /// Returns the length, and the string padded with NULs to 7 bytes.
     #[inline(always)]
     pub(crate) fn padded(&self) -> (u8, &str)
         ensures text { take result.0 result.1.now ≡ self.now }
@@ -97,7 +97,7 @@ impl Block<7> {
 }
 
 impl Block<23> {
-    /// A block with a `text` of 8 bytes or more, copied as three words, which may overlap.
+    /// Creates a block with a `text` of 8 bytes or more, copied as three words, which may overlap.
     #[inline(always)]
     pub(crate) fn of_words(text: &str) -> Block<23>
         requires long { 8 ≤ length text.now }

@@ -56,7 +56,7 @@ impl<S: BuildHasher> StringCache<S> {
         }
     }
 
-    /// The number of strings.
+    /// Returns the number of strings.
     pub fn len(&self) -> usize
         ensures { result ≡ set.len self.now.texts }
     {
@@ -87,7 +87,9 @@ impl<S: BuildHasher> StringCache<S> {
         self.texts.clear();
     }
 
-    /// The shared copy of a long `text`, which is added if it is new. If the guess is right, nothing is hashed.
+    /// Returns the shared copy of a long `text`, which is added if it is new.
+    ///
+    /// If the guess is right, nothing is hashed.
     ///
     /// # Errors
     ///

@@ -25,7 +25,7 @@ impl<'a> Hash for TextBytes<'a> {
     }
 }
 
-/// The hash of `text` in 32 bits: the upper half of the product of its hash and `MIXER`.
+/// Returns the hash of `text` in 32 bits: the upper half of the product of its hash and `MIXER`.
 ///
 /// Each bit of the hash counts in that product, so a hasher may leave some bits constant.
 #[tactic(auto, unfolding(crate::specs::private::Chains::mixed))]

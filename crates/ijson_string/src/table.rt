@@ -49,7 +49,7 @@ impl Model for TextTable {
 }
 
 impl TextTable {
-    /// An empty table. It allocates nothing.
+    /// Creates an empty table. Does not allocate.
     pub(crate) fn new(alloc: Global) -> TextTable
         ensures { result ≡ no_table }
     {
@@ -61,16 +61,17 @@ impl TextTable {
         }
     }
 
-    /// The strings, in insertion order.
+    /// Returns the strings, in insertion order.
     pub(crate) fn texts(&self) -> &[IString]
         ensures { result.now ≡ texts_of self.now.keys }
     {
         &self.texts
     }
 
-    /// The index of `text` if it is the string that followed the current one last time. `None` means only that the guess failed.
+    /// Returns the index of `text` if it is the string that followed the current one last time.
     ///
-    /// Nothing is hashed, and only a string of the same length is read.
+    /// `None` means only that the guess failed. Nothing is hashed, and only a string of the same
+    /// length is read.
     pub(crate) fn guess(&self, text: &str) -> Option<u32>
         ensures found { IfSome result (λ at. IsTextAt text.now self.now.keys at) }
         ensures taken { (at : ℕ) → IsFollower at (length text.now) self.now.followers → IsTextAt text.now self.now.keys at
@@ -87,7 +88,9 @@ impl TextTable {
         None
     }
 
-    /// The index of `text`, whose hash is `hash`. The chain that is walked has at most four strings on average.
+    /// Returns the index of `text`, whose hash is `hash`.
+    ///
+    /// The chain that is walked has at most four strings on average.
     pub(crate) fn find(&self, hash: u32, text: &str) -> Option<u32>
         ensures found { IfSome result (λ at. IsKeyAt hash text.now self.now.keys at) }
         ensures exact { is_some result ≡ list_any (is_key hash text.now) self.now.keys }

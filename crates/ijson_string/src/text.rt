@@ -57,7 +57,7 @@ impl Model for IString {
 }
 
 impl IString {
-    /// The empty string. It allocates nothing.
+    /// Creates the empty string. Does not allocate.
     pub fn new() -> IString
         ensures { result ≡ [] }
     {
@@ -117,7 +117,7 @@ impl IString {
         Ok(IString { stored })
     }
 
-    /// The string, borrowed.
+    /// Borrows the string.
     pub fn as_str(&self) -> &str
         ensures { result.now ≡ self.now }
     {
@@ -131,9 +131,10 @@ impl IString {
         }
     }
 
-    /// The length of an inline string, and the string padded with NULs to 7 bytes. `None` for a longer string.
+    /// Returns the length of an inline string, and the string padded with NULs to 7 bytes.
     ///
-    /// The padded string can be tested and appended by moves of constant size.
+    /// Returns `None` for a longer string. The padded string can be tested and appended by moves of
+    /// constant size.
     #[inline(always)]
     pub fn inline_padded(&self) -> Option<(u8, &str)>
         ensures text { IfSome result (λ x. take x.0 x.1.now ≡ self.now) }
@@ -148,14 +149,14 @@ impl IString {
         }
     }
 
-    /// The bytes of the string, borrowed.
+    /// Borrows the bytes of the string.
     pub fn as_bytes(&self) -> &[u8]
         ensures { result.now ≡ self.now }
     {
         self.as_str().as_bytes()
     }
 
-    /// The length in bytes, not in characters.
+    /// Returns the length in bytes, not in characters.
     pub fn len(&self) -> usize
         ensures { result ≡ length self.now }
     {
@@ -265,7 +266,7 @@ impl Hash for IString {
     }
 }
 
-/// The empty string.
+/// Creates the empty string.
 impl Default for IString {
     ghost is_default = { λ s. s ≡ [] };
 

@@ -48,7 +48,7 @@ pub struct RefusedPair<V> {
     pub why: ReserveError,
 }
 
-/// Converts to the reason. The returned entry is dropped.
+/// Converts to the reason and drops the entry.
 impl<V: Drop> From<RefusedPair<V>> for ReserveError {
     ghost use Rattle.std.specs.Prelude.{◌≡◌};
 

@@ -126,7 +126,7 @@ impl IValue {
     }
 }
 
-/// The default is null.
+/// Creates null.
 impl Default for IValue {
     ghost is_default = { λ v. v ≡ null_value };
 

@@ -83,7 +83,7 @@ pub(crate) fn prepend(buckets: &mut Vec<Bucket>, hash: u32, head: u32) -> u32
     before.head
 }
 
-/// The head of the chain of `hash`, if the filter of its bucket lets the hash pass.
+/// Returns the head of the chain of `hash`, if the filter of its bucket lets the hash pass.
 ///
 /// Only the filter is tested: whether the chain is empty, the branch predictor cannot predict. Not inlined, since in `find` the
 /// compiler tests first whether the chain is empty.
@@ -103,8 +103,9 @@ pub(crate) fn head_for(buckets: &[Bucket], hash: u32) -> Option<u32>
     Some(head)
 }
 
-/// The bucket of a hash among `count`, by a product instead of a division. When the buckets double, each splits into two adjacent
-/// ones.
+/// Returns the bucket of a hash among `count`, by a product instead of a division.
+///
+/// When the buckets double, each splits into two adjacent ones.
 #[tactic(auto, unfolding(crate::specs::private::Chains::bucket_of))]
 fn bucket_index(hash: u32, count: usize) -> usize
     requires some { 0 < count }
@@ -115,7 +116,9 @@ fn bucket_index(hash: u32, count: usize) -> usize
     ((u64::from(hash) * count as u64) >> 32) as usize
 }
 
-/// The bits of a hash in the filter of its bucket, from its 15 lower bits, since the upper ones select the bucket.
+/// Returns the bits of a hash in the filter of its bucket, from its 15 lower bits.
+///
+/// The upper bits select the bucket.
 #[tactic(auto, unfolding(crate::specs::private::Filters::filter_of))]
 fn filter_bits(hash: u32) -> u32
     ensures { result ≡ filter_of hash }

@@ -34,7 +34,7 @@ pub(crate) struct Followers {
 }
 
 impl Followers {
-    /// No string follows any.
+    /// Creates the state in which no string follows another.
     pub(crate) fn new() -> Followers
         ensures { result ≡ no_followers }
     {

@@ -27,7 +27,7 @@ pub struct RefusedPairs {
     pub why: ReserveError,
 }
 
-/// Converts to the reason. The returned entries are dropped.
+/// Converts to the reason and drops the entries.
 impl From<RefusedPairs> for ReserveError {
     ghost use Rattle.std.specs.Prelude.{◌≡◌};
 

@@ -18,7 +18,7 @@ impl From<bool> for IValue {
     }
 }
 
-/// Moves a number into a value.
+/// Converts a number.
 impl From<INumber> for IValue {
     ghost from_gives = { λ n v. v ≡ number_value n };
 
@@ -29,7 +29,7 @@ impl From<INumber> for IValue {
     }
 }
 
-/// Moves a string into a value.
+/// Converts a string.
 impl From<IString> for IValue {
     ghost from_gives = { λ s v. v ≡ string_value s };
 
@@ -40,7 +40,7 @@ impl From<IString> for IValue {
     }
 }
 
-/// Moves an array into a value.
+/// Converts an array.
 impl From<IArray> for IValue {
     ghost from_gives = { λ a v. v ≡ array_value a.items };
 
@@ -51,7 +51,7 @@ impl From<IArray> for IValue {
     }
 }
 
-/// Moves an object into a value.
+/// Converts an object.
 impl From<IObject> for IValue {
     ghost from_gives = { λ o v. v ≡ object_value o };
 
