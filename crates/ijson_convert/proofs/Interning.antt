@@ -29,7 +29,7 @@ some_before xs ys old new s = record {
   cache = s.cache;
 }
 
--- and so is a beginning of those after the first
+-- a beginning of the strings after the first is one of all
 pub some_behind : (xs ys : List (List ℕ)) (old new : Texts) → SomeInterned ys (all_interned xs old) new
     → SomeInterned (xs ++ ys) old new
 some_behind xs ys old new s = record {
@@ -55,7 +55,7 @@ element_strings tree = record {
   first = λ _ _. refl;
 }
 
--- and of entries with these keys and trees
+-- the strings of entries with these keys and trees
 abbrev pub entry_strings : {X : Type 0} → (X → List ℕ × Tree) → Strings X
 entry_strings pair = record {
   each = λ x. (pair x).0 ∷ texts_of (pair x).1;
@@ -72,7 +72,7 @@ module _ {X : Type 0} (s : Strings X) where
       ∙ sym (append_assoc (s.each x) (s.all xs) (s.all ys)) ∙ ap (λ l. l ++ s.all ys) (sym (s.first x xs))
 
   module _ (done : List X) (x : X) (old middle new : Texts) (so_far : middle ≡ all_interned (s.all done) old) where
-    -- those of one more part
+    -- the strings of one more part are interned
     pub one_interned : new ≡ all_interned (s.each x) middle → new ≡ all_interned (s.all (done ++ x ∷ [])) old
     one_interned n =
         n ∙ ap (all_interned (s.each x)) so_far ∙ sym (both_interned (s.all done) (s.each x) old)

@@ -77,6 +77,6 @@ module _ {X : Type 0} (tree : X → Tree) (xs : List X) (i : ℕ) (x : X) (withi
             ∙ ap (λ ys. all_interned (items_texts (items_of (map tree ys))) old) (sym more),
       )
 
-  -- or a beginning of its strings is interned
+  -- a beginning of the next element's strings is interned
   pub item_begun : SomeInterned (texts_of (tree x)) middle new → SomeInterned (items_texts (items_of (map tree xs))) old new
   item_begun = one_begun (element_strings tree) (take i xs) x old middle new so_far (drop (suc i) xs) xs (split_at xs i x within is)

@@ -2,7 +2,7 @@
 use Rattle.std.specs.Prelude.{◌≡◌, Option, None, Some, ⊤}
 use Rattle.ijson_value.specs.Tree.{Tree, null}
 
--- it is None, or its tree is not null and its content has the property `inside`
+-- None, or the tree is not null and the content has the property `inside`
 abbrev pub option_null_is_none : {X : Type 0} → (X → Tree) → (X → Type 0) → Option X → Type 0
 option_null_is_none tree inside None = ⊤
 option_null_is_none tree inside (Some x) = (tree x ≡ null → ⊥) × inside x

@@ -5,13 +5,13 @@ use Rattle.ijson_number.specs.Alike.{IsAlike}
 use Rattle.ijson_number.proofs.parsing.Denotes.{same_decimal, spells_one}
 use Rattle.ijson_number.proofs.writing.RoundTrip.{num_text_spells}
 
--- they are equal
+-- indistinguishable numbers are equal
 alike_same : (a b : Num) → IsAlike a.decimal b.decimal → a.decimal ≡ b.decimal
 alike_same a b h =
     let e = equal_same a.decimal b.decimal a.is_num.plain b.is_num.plain (tests_equal _ h.value) in
     same_decimal a.decimal.mantissa b.decimal.mantissa a.decimal.exponent b.decimal.exponent a.decimal.point b.decimal.point e.0 e.1 h.shape
 
--- they have one form
+-- indistinguishable numbers have one form
 pub alike_form : (a b : Num) (f : FormOf) → f ≡ form_of a.decimal → IsAlike a.decimal b.decimal → f ≡ form_of b.decimal
 alike_form a b f e h = e ∙ ap form_of (alike_same a b h)
 
@@ -25,6 +25,6 @@ text_alike a b e =
       shape = ap (λ (d : Decimal). d.point) one;
     }
 
--- they have one text, and no other number has it
+-- numbers have the same text exactly if they are indistinguishable
 pub text_tells : (a b : Num) → (num_text a.decimal ≡ num_text b.decimal) ↔ IsAlike a.decimal b.decimal
 text_tells a b = (text_alike a b, λ h. ap num_text (alike_same a b h))

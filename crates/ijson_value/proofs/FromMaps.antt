@@ -44,7 +44,7 @@ module _ {K X : Type 0} (bytes : K → List ℕ) where
     unique_keys es d.1,
   )
 
-  -- or if they ascend
+  -- keys are distinct if they ascend
   pub ordered_keys : (es : List (K × X)) → IsStrictlySortedBy (λ x y. slice_cmp nat_cmp (bytes x) (bytes y)) (map_keys es)
       → IsDistinct (map (λ e. bytes e.0) es)
   unfolding IsStrictlySortedBy
@@ -72,7 +72,7 @@ module _ {X : Type 0} {entries : List (List ℕ × X)} where
       → Drains (TakesFirst (λ (p : List ℕ × X). p)) it xs → xs ≡ entries
   entries_given {it} start xs drains = sym (all_given it xs drains) ∙ start
 
-  -- so does a map whose iterator begins with them
+  -- a map whose iterator begins with these entries yields no others
   pub map_gives : {U : Type 0} {becomes : U → List (List ℕ × X) → Type 0} {source : U}
       → ((it : List (List ℕ × X)) → becomes source it → it ≡ entries) → {count : ℕ} → count ≡ length entries
       → IsDistinct (keys_of entries) → GivesDistinctPairs becomes (TakesFirst (λ (p : List ℕ × X). p)) source count

@@ -19,7 +19,7 @@ FindsEntry old key (Vacant v) =
 abbrev pub FindsNoRoom : Store WellFormed → List ℕ → ReserveError → Type 0
 FindsNoRoom old key why = (lookup key old.pairs ≡ None) × Ungrown (length old.pairs) old.capacity 1 why old.capacity
 
--- or the key could not be cloned, since its reference count was saturated
+-- no capacity, or the key could not be cloned, since its reference count was saturated
 abbrev pub FindsNoRoomOrCopy : Store WellFormed → List ℕ → ReserveError → Type 0
 FindsNoRoomOrCopy old key why =
     FindsNoRoom old key why ⊎ ((lookup key old.pairs ≡ None) × (7 < length key) × (why ≡ Memory))

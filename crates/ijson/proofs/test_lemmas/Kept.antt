@@ -29,7 +29,7 @@ module _ (k₁ k₂ : List ℕ) (v₁ v₂ : WellFormed) (old ps : List (List �
   second_there r got =
       some_there r v₂ (got ∙ simp (two_put, other_bytes k₂ k₁ (λ e. apart (sym e)), (bytes_decides k₂ k₂).1 refl))
 
-  -- and has the value written
+  -- the second key has the value written
   pub second_written : (w : WellFormed) → (with_found s (at s.pairs k₂) w).pairs ≡ (k₁, v₁) ∷ (k₂, w) ∷ []
   second_written w =
       let found : at s.pairs k₂ ≡ Some 1 = simp (two_put, other_bytes k₁ k₂ apart, (bytes_decides k₂ k₂).1 refl) in

@@ -19,7 +19,7 @@ pub has_middle : (done : List (List ℕ × WellFormed)) (p : List ℕ × WellFor
 has_middle [] p left = inl (refl, refl)
 has_middle (q ∷ done) p left = inr (has_middle done p left)
 
--- its value is no deeper than the list
+-- an entry's value is at most as deep as the list around it
 pub deep_middle : (done : List (List ℕ × WellFormed)) (p : List ℕ × WellFormed) (left : List (List ℕ × WellFormed))
     → depth p.1.tree ≤ members_depth (pair_trees (done ++ p ∷ left))
 deep_middle [] p left = omega arith

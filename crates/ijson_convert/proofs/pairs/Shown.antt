@@ -55,11 +55,11 @@ list_shown shows it (b ∷ all) is = (
       (head, list_shown shows t all tail),
 )
 
--- so does that of a map
+-- the iterator of a map yields its remaining entries
 pub entries_shown : {K X : Type 0} {it all : List (K × X)} → it ≡ all → AlwaysYields (TakesFirst deref_pair) deref_pair it all
 entries_shown {it = it} {all = all} is = list_shown deref_pair it all is
 
--- they are `count` entries, with distinct keys
+-- the iterator of a map yields `count` entries, with distinct keys
 pub entries_given : {X : Type 0} {it all : List (String Global × X)} {count : ℕ} → it ≡ all → count ≡ length all
     → IsDistinct (map (λ e. string_bytes e.0) all)
     → (es : List (String Global × X)) × AlwaysYields (TakesFirst deref_pair) deref_pair it es × (count ≡ length es)

@@ -125,7 +125,7 @@ module _ {X : Type 0} {tree : X → Tree} {Refused : Tree → ConvertError → T
         none = none;
       }
 
-      -- or rejected, and then so is the object
+      -- if a member is rejected, so is the object
       pub one_refused : {e : ConvertError} → Refused v.tree e → MapRefused Refused object.tree e
       one_refused {e} refused =
           subst (λ t. MapRefused Refused t e) (sym here)

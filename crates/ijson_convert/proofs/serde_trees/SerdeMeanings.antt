@@ -52,7 +52,7 @@ items_unmeant before u left never serde.no_items (item t ts) w h s = h
 items_unmeant [] u left never ds no_items w h s = s
 items_unmeant (x ∷ before) u left never ds no_items w h s = s
 
--- and so the array has no meaning
+-- an array with an element without a meaning has none
 pub array_unmeant : (before : List WellFormed) (u : WellFormed) (left : List WellFormed) → NoSerdeMeans u.tree
     → NoSerdeMeans (array_tree (before ++ u ∷ left))
 array_unmeant before u left never (serde.array ds) (array ts, w, h, s) = items_unmeant before u left never ds ts w h s
@@ -79,7 +79,7 @@ module _ (old new : Members) (grows : (j : List ℕ) (u : Tree) → Has j u old 
     well = λ w v. (w, v);
   }
 
-  -- and one inserted after another member
+  -- a member inserted after another member
   added_later : (ps qs : Members) (i : List ℕ) (v : Tree) → Added ps qs → Added (member i v ps) (member i v qs)
   added_later ps qs i v a = record {
     len = ap suc a.len;

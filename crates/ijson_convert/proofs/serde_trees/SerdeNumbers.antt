@@ -24,7 +24,7 @@ use Rattle.ijson_convert.proofs.Whole.{has_same}
 unsigned_num : (n : ℕ) → n < 2 ^ 64 → IsNum (integer_number (pos n))
 unsigned_num n h = integer_num (pos n) h (λ e. unsigned_fits n h)
 
--- and so is that of an `i64`
+-- the number of an `i64` is a Num
 signed_num : (z : ℤ) → FitsSigned w64 z → IsNum (integer_number z)
 signed_num z h = integer_num z (signed_small z h) (λ e. let t = signed_fits z h in cc)
 
@@ -68,7 +68,7 @@ unsigned_here (serde.unsigned m) k n e small i =
 unsigned_here (serde.negative z) k n e small i = absurd (cc)
 unsigned_here (serde.float x) k n e small i = absurd (cc)
 
--- and so has one that is an `i64` below zero
+-- a number of `serde_json` that is an `i64` below zero has a tree
 pub signed_here : (m : serde.Num) (z : ℤ) (n : Num) → as_u64 m ≡ None → as_i64 m ≡ Some z → FitsSigned w64 z
     → IsInteger n.decimal (cast_signed w64 (cast_unsigned w64 z)) → SerdeNumber m n.decimal
 signed_here (serde.unsigned k) z n none e fits i = absurd (cc)

@@ -32,14 +32,14 @@ mutual
   tree_texts (serde.object ms) (object ps) h = same_members_texts ms ps h
   tree_texts _ _ h = absurd h
 
-  -- and so do elements
+  -- the strings of elements
   same_items_texts : (ds : serde.Items) (ts : Items) → SerdeItems ds ts → items_texts ts ≡ serde_items_texts ds
   same_items_texts serde.no_items no_items h = refl
   same_items_texts (serde.item d ds) (item t ts) h =
       ap₂ (λ a b. a ++ b) (tree_texts d t h.0) (same_items_texts ds ts h.1)
   same_items_texts _ _ h = absurd h
 
-  -- and members
+  -- the strings of members
   same_members_texts : (ms : serde.Members) (ps : Members) → SerdeMembers ms ps
       → members_texts ps ≡ serde_members_texts ms
   same_members_texts serde.no_members no_members h = refl
@@ -105,13 +105,13 @@ members_none [] e left never (member k t ps) h = never t h.1
 members_none (f ∷ before) e left never no_members h = h
 members_none (f ∷ before) e left never (member k t ps) h = members_none before e left never ps h.2
 
--- nor has the array
+-- an array with an element that has no tree has none
 pub array_none : (before : List Value) (v : Value) (left : List Value) → HasNoTree (view v)
     → HasNoTree (serde.array (items_view (before ++ v ∷ left)))
 array_none before v left never (array ts) h = items_none before v left never ts h
 array_none before v left never _ h = absurd h
 
--- nor has the object
+-- an object with a member that has no tree has none
 pub object_none : (before : List Entry) (e : Entry) (left : List Entry) → HasNoTree (view e.1)
     → HasNoTree (serde.object (members_view (before ++ e ∷ left)))
 object_none before e left never (object ps) h = members_none before e left never ps h

@@ -8,7 +8,7 @@ use Rattle.ijson_convert.specs.TextsOf.{items_texts}
 use Rattle.ijson_convert.specs.declared.convert_error.ConvertError.{ConvertError}
 use Rattle.ijson_convert.specs.declared.convert_error.ConvertError.TheVariants.{Memory}
 
--- they are appended and their strings interned, or memory ran out after the first strings
+-- the trees are appended and their strings interned, or memory ran out after the first strings
 pub record Pushes {X : Type 0} (trees : List Tree) (old new : List WellFormed) (before after : Texts) (result : Result X ConvertError) : Type 0 where
   pub ok : OnOk result ((map tree_of new ≡ map tree_of old ++ trees) × (after ≡ all_interned (items_texts (items_of trees)) before))
   pub refused : IfErr result (λ e. (e ≡ Memory) × SomeInterned (items_texts (items_of trees)) before after)

@@ -57,7 +57,7 @@ pub sign_below : (negative : Bool) (ds : List ℕ) → negative ≡ true → IsS
 sign_below negative ds is k h = let n = stripped_mod ds k.stripped h in
     rw is (int_below (neg_ℤ (pos (number_from_digits 10 ds))) (pos 0) (omega (arith, ints, n)))
 
--- and positive without
+-- digits without a minus are positive
 pub sign_above : (negative : Bool) (ds : List ℕ) → negative ≡ false → IsStored negative ds → 0 < length ds
     → int_cmp (signed negative (number_from_digits 10 ds)) (pos 0) ≡ Greater
 sign_above negative ds is k h = let n = stripped_mod ds k.stripped h in
@@ -122,7 +122,7 @@ module _ (a b : Num) (s t : Ordering) (p : s ≡ int_cmp a.decimal.mantissa (pos
   pub above_zero_is : s ≡ Greater → magnitude_cmp a.decimal b.decimal ≡ number_cmp a.decimal b.decimal
   above_zero_is is = same_sign false (grind (arith, ints)) (grind (arith, ints))
 
-  -- and zeros are equal
+  -- zeros are equal
   pub zeros_cmp : s ≡ Equal → number_cmp a.decimal b.decimal ≡ Equal
   zeros_cmp is =
       rw (cmp_equal a.decimal.mantissa (pos 0) (sym p ∙ is), cmp_equal b.decimal.mantissa (pos 0) (other Equal is)) (grind (arith, ints))

@@ -77,7 +77,7 @@ whole_taken t u a x n p rest count h is behind c d l f =
     (λ m. rw behind (l (omega (arith, c, m)))) (behind_begins f.fraction_text p.fraction f.after f.has_point f.fraction f.digits_end)
     (elim f.few [ inl few ↦ omega (arith, few) | inr zero ↦ rw zero.0 (omega arith) ]) e
 
--- and its fraction, or none, follows them
+-- the fraction, or none, follows the leading digits
 pub plain_tail : (t : List ℕ) (a x : List ℕ) (p : Parts) (rest : List ℕ) (count : ℕ) → length a ≡ count
     → (f : IsCommonFront t p rest) → (a ≡ p.whole) × (x ≡ f.fraction_text ++ f.after) → IsFewFraction (value a) count x f.fraction_text f.after
 plain_tail t a x p rest count c f r = record {
@@ -130,7 +130,7 @@ signed_digits number (b ∷ bs) rest digits negative e h sign = elim h [
   ])
 ]
 
--- and after the letter
+-- the digits after the letter of an exponent
 power_digits : (text exponent_text rest digits : List ℕ) (negative : Bool) → text ≡ exponent_text ++ rest → IsFewExponent exponent_text
     → (EndsToken text → ⊥) → EndsToken rest → IsExponentSignTaken (drop 1 text) negative digits
     → (ds : List ℕ) × IsFewDigits ds × (digits ≡ ds ++ rest)

@@ -104,7 +104,7 @@ pub record IsUnsigned (text whole fraction : List ℕ) (exponent : ℤ) (point :
   pub whole_is : IsWhole whole
   pub tail_is : IsTail rest fraction exponent point
 
--- its whole part is its first run of digits
+-- the whole part of an unsigned number is its first run of digits
 pub unsigned_at : (bytes a rest w f : List ℕ) (z : ℤ) (p : Bool) → bytes ≡ a ++ rest → AllDigits a → BeginsWithNoDigit rest
     → IsUnsigned bytes w f z p → (w ≡ a) × IsTail rest f z p
 unsigned_at bytes a rest w f z p e d n u =

@@ -69,7 +69,7 @@ digits_small n bs most h l buffer =
 pub digits_more : (bs : List ℕ) (i : ℕ) → AllDigits (take i bs) → i < length bs → IsDigit (get_or bs i 0) → AllDigits (take (i + 1) bs)
 digits_more bs i front inside digit = rw (take_more bs i 0 inside) (AllDigits-append (take i bs) (get_or bs i 0 ∷ []) front (digit, tt))
 
--- and so does appending one digit
+-- appending one digit stays below 10^19
 pub step_small : (n : ℕ) (bs : List ℕ) (i most : ℕ) → AllDigits (take i bs) → i < length bs → i < most → IsDigit (get_or bs i 0)
     → (n + 1) * 10 ^ most ≤ 10 ^ 19 → number_from_digits_after 10 n (digits_from_text (take i bs)) * 10 + (get_or bs i 0 - 48) < 10 ^ 19
 step_small n bs i most front inside few digit buffer =
@@ -100,7 +100,7 @@ pub no_less : (n : ℕ) (ds : List ℕ) → n ≤ number_from_digits_after 10 n 
 no_less n [] = omega arith
 no_less n (d ∷ ds) = let h = no_less (n * 10 + d) ds in omega arith
 
--- nor does appending those after a digit that was read
+-- appending the digits after a digit does not decrease a number
 pub digits_after : (n : ℕ) (bs : List ℕ) (i : ℕ) → i < length bs
     → number_from_digits_after 10 n (digits_from_text (take i bs)) * 10 + (get_or bs i 0 - 48) ≤ number_from_digits_after 10 n (digits_from_text bs)
 digits_after n bs i h =

@@ -28,7 +28,7 @@ module _ (text : List ℕ) (f : Front) (rest : List ℕ) (m : IsMantissa text f 
     point = f.significand.point || written;
   }
 
-  -- followed by the text of an exponent they spell these parts
+  -- the front and the text of an exponent spell these parts
   spelled : (exponent_text : List ℕ) (z : ℤ) (written : Bool) → IsExponent exponent_text z written
       → IsSpelled (front ++ exponent_text) (parts z written)
   spelled exponent_text z written is = record {
@@ -63,7 +63,7 @@ module _ (text : List ℕ) (f : Front) (rest : List ℕ) (m : IsMantissa text f 
   pub whole_length : length text ≡ f.length + length rest
   whole_length = ap length m.text_is ∙ length-append front rest ∙ ap (λ n. n + length rest) (sym m.length_is)
 
-  -- with `count` bytes of an exponent they spell a number
+  -- the front and `count` bytes of an exponent spell a number
   spelled_at : (s : Significand) (z : ℤ) (written : Bool) (count : ℕ) → count ≤ length rest → IsExponent (take count rest) z written
       → IsPowerSmall z → s.negative ≡ f.significand.negative → s.magnitude ≡ f.significand.magnitude
       → s.exponent ≡ f.significand.exponent +ℤ z → s.point ≡ f.significand.point || written
@@ -120,7 +120,7 @@ exponent_at b number digits negative count z begins sign some within all is =
 few_small : (ds : List ℕ) → AllDigits ds → length ds ≤ 4 → value ds < 10 ^ 4
 few_small ds all few = let v = value_small ds all in let p = power_le (length ds) 4 few in omega arith
 
--- and so have the digits read after `e` and a sign
+-- the digits read after `e` and a sign have a value below 10^4
 pub digits_few : (digits : List ℕ) (magnitude count : ℕ) → IsTaken 0 digits 4 magnitude count → magnitude < 10 ^ 4
 digits_few digits magnitude count t =
     rw t.value (few_small (take count digits) t.digits (let few = t.few in omega (arith, length-take-le count digits t.within)))

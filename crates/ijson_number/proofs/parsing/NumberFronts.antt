@@ -77,7 +77,7 @@ exponent_after : (s : State) → ((b : ℕ) → is_letter b ≡ true → next s 
 exponent_after s begins [] z w h = rw h.1 refl
 exponent_after s begins (b ∷ bs) z w h = rw (h.2, begins b (letter_is b h.0)) (signed_after bs z h.1)
 
--- and after a fraction or none
+-- the state after a fraction or none
 fraction_after : (s : State) → next s 46 ≡ Some point → (ft f : List ℕ) (p : Bool) → IsFraction ft f p
     → after (Some s) ft ≡ Some (cond p fraction_digit s)
 fraction_after s begins [] f p h = rw h.1 refl

@@ -44,7 +44,7 @@ values (suc k) n =
     map-append (λ a. (a + (2 ^ 8 - 48)) % 2 ^ 8) front ((48 + n % 10) ∷ []) ∙ ap₂ ◌++◌ (values k (n / 10)) (λ i. last i ∷ [])
     ∙ sym (map-append (λ b. b - 48) front ((48 + n % 10) ∷ []))
 
--- and those of 16 lanes
+-- the last digits of a number in 16 lanes, less '0'
 pub row_values : (n : ℕ) (lanes : List ℕ) → lanes ≡ last_digits 16 n → digit_lanes lanes ≡ digits_from_text (last_digits 16 n)
 row_values n lanes is = rw is (zip2_splat (λ a b. (a + (2 ^ 8 - b)) % 2 ^ 8) (last_digits 16 n) 16 48 (last_count 16 n) ∙ values 16 n)
 

@@ -54,11 +54,11 @@ module _ (x y : StrippedNumber) (a b : Decimal) (view : decimal_of x ≡ a) (vie
       let tells = slice_eq-Decides Decides-eqb x.digits.now y.digits.now r d in
       both_ways r (number_eq a b) (λ t. parts_equal s (tells.0 t) e) (λ t. tells.1 (equal_digits t))
 
-  -- with different signs they differ
+  -- numbers with different signs differ
   pub signs_tell : (x.negative ≡ y.negative → ⊥) → false ≡ number_eq a b
   signs_tell h = sym (false_from_ne_true (number_eq a b) (λ is. h (equal_sign is)))
 
-  -- with different exponents they differ
+  -- numbers with different exponents differ
   pub exponents_tell : (x.exponent ≡ y.exponent → ⊥) → false ≡ number_eq a b
   exponents_tell h = sym (false_from_ne_true (number_eq a b) (λ is. h (mantissa_exponent is).1))
 
@@ -137,7 +137,7 @@ module _ (n : Decimal) (k : ℕ) (whole : pos 0 ≤ℤ n.exponent) (so_far : for
     too_large_here f = now ∙ left (int_le (pos k) n.exponent && fits_packed here) (packed here (pos k) true) rest
         (and_right (int_le (pos k) n.exponent) (fits_packed here) (ap fits_packed same ∙ f)) ∙ on
 
-  -- or if k exceeds the exponent of the number
+  -- a larger exponent, if k exceeds the exponent of the number
   pub past_exponent : nat_abs n.exponent < k → form_of n ≡ smallest_packed (8 - (k + 1)) (k + 1) n
   past_exponent h =
       let fails = false_from_ne_true (int_le (pos k) n.exponent)

@@ -164,7 +164,7 @@ integer_value negative m word = elim (cases_eq m 0) [
       )
 ]
 
--- and its form
+-- the form of an integer of one word
 pub integer_form_is : (s : Significand) → s.magnitude < 2 ^ 64 → s.point ≡ false → s.exponent ≡ pos 0
     → form_of (significand_number s) ≡ integer_form (significand_number s) (signed s.negative s.magnitude)
 integer_form_is s word point integer =

@@ -88,7 +88,7 @@ number_so_far ds i h m l =
     let p = power_le (length (take i ds)) 19 t in
     omega arith
 
--- and with its zeros
+-- at most twenty digits and zeros have a value below 10^20
 pub scaled_small : (ds : List ℕ) (zeros : ℕ) → All (λ d. d < 10) ds → length ds + zeros ≤ 20 → number_from_digits 10 ds * 10 ^ zeros < 10 ^ 20
 scaled_small ds zeros h l =
     let b = scaled_below ds zeros (recursion_from_All (λ d. d < 10) ds h) in

@@ -13,7 +13,7 @@ none_begun old new text e = record { front = []; rest = text; is = refl; taken =
 pub some_begun : (old new done rest text : List ℕ) → new ≡ old ++ done → done ++ rest ≡ text → AppendsBeginning old new text
 some_begun old new done rest text e f = record { front = done; rest = rest; is = sym f; taken = e }
 
--- a beginning of its first part was appended
+-- a beginning of the text's first part was appended
 pub front_begun : (old new piece rest text : List ℕ) → AppendsBeginning old new piece → piece ++ rest ≡ text → AppendsBeginning old new text
 front_begun old new piece rest text w f = record {
   front = w.front;

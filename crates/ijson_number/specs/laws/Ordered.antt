@@ -164,7 +164,7 @@ equal_same a b p q h =
       ],
     )
 
--- and feed the same words
+-- plain numbers of one value feed the same words
 pub equal_words : (a b : Decimal) → IsPlain a → IsPlain b → number_cmp a b ≡ Equal → number_words a ≡ number_words b
 equal_words a b p q h =
     let r = equal_same a b p q h in

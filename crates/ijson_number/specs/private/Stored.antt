@@ -30,7 +30,7 @@ stored_decimal stored = form_number (stored_form stored)
 abbrev pub IsForm : Stored → Type 0
 IsForm stored = form_of (stored_decimal stored) ≡ stored_form stored
 
--- its digits are few, in one block with the sign and the exponent
+-- few digits, in one block with the sign and the exponent
 abbrev pub IsShort : Stored → Type 0
 IsShort (Short number) = ⊤
 IsShort (Long number) = ⊥
@@ -43,7 +43,7 @@ pub record IsCopy (stored copy : Stored) : Type 0 where
   pub form : stored_form copy ≡ stored_form stored
   pub short : IsShort stored ↔ IsShort copy
 
--- its form is a list of digits
+-- the form of the number is a list of digits
 abbrev pub IsList : Stored → Type 0
 IsList (Short number) = ⊤
 IsList (Long number) = ⊤

@@ -13,7 +13,7 @@ not_above k n d m e p below reciprocal =
     let c : k * (e * d) ≤ k * n = grind (arith, a, b) in
     le_of_mul-le-mul_left c p
 
--- and at most one less
+-- e is at most one below the quotient by d
 near : (k n d m e : ℕ) → 0 < d → n < k → n * m < k * (e + 1) → k ≤ d * (m + 1) → n < (e + 2) * d
 near k n d m e p small above reciprocal =
     let a : n * m * d < k * (e + 1) * d = mul-lt-mul_of_pos_right above p in
@@ -22,7 +22,7 @@ near k n d m e p small above reciprocal =
     let s : k * n < k * ((e + 2) * d) = grind (arith, a, b, c) in
     lt_of_mul-lt-mul_left k s
 
--- of the quotient of a hash a by the reciprocal b of d
+-- a quotient by the reciprocal is at most the quotient by d
 pub quotient-not_above : (n d a b : ℕ) → a ≡ n → b ≡ (2 ^ 64 - 1) / d → a * b / 2 ^ 64 * d ≤ n
 quotient-not_above n d a b hash reciprocal =
     let m = (2 ^ 64 - 1) / d in
@@ -31,7 +31,7 @@ quotient-not_above n d a b hash reciprocal =
     (omega (arith, r)) in
     subst (λ e. e * d ≤ n) (sym (ap₂ (λ x y. x * y / 2 ^ 64) hash reciprocal)) h
 
--- the quotient by the reciprocal is that by the count, or one less
+-- a quotient by the reciprocal is at most one below the quotient by d
 pub quotient-near : (n d a b : ℕ) → a ≡ n → b ≡ (2 ^ 64 - 1) / d → 0 < d → n < 2 ^ 64 → n < (a * b / 2 ^ 64 + 2) * d
 quotient-near n d a b hash reciprocal p small =
     let m = (2 ^ 64 - 1) / d in

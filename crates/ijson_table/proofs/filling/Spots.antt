@@ -46,7 +46,6 @@ module _ (h : ℕ → ℕ) (s : ℕ) where
 abbrev pub spot : ℕ → List Slot → ℕ → ℕ
 spot n sorted k = max (next_after (home_of_entry n sorted) (passing n sorted) k) (home_of_entry n sorted k)
 
--- its slot
 abbrev pub place : ℕ → List Slot → ℕ → ℕ
 place n sorted k = wrapped n (spot n sorted k)
 

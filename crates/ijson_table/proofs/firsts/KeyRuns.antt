@@ -29,7 +29,7 @@ module _ {n : ℕ} {hash : List ℕ → ℕ} (keys : List (List ℕ)) (sorted : 
   is_position k p lk e =
       omega (arith, entry_within n (map hash keys) sorted s.entries k p lk e, length-map keys hash)
 
-  -- each index is that of an entry
+  -- each index has an entry
   pub spot : (i : ℕ) → i < length keys → (k : ℕ) × (k < length sorted) × (position_in (get_or sorted k blank) ≡ Some i)
   spot i li =
       let one : times i (positions sorted) ≡ 1 = grind (arith, nat_tests, s.entries.placed i, length-map keys hash) in
@@ -90,7 +90,7 @@ module _ {n : ℕ} {hash : List ℕ → ℕ} (keys : List (List ℕ)) (sorted : 
         ]
       ]
 
-  -- so the index of such an entry stands for itself,
+  -- if the key differs from the previous entry, the index stands for itself
   pub other_key : (k p q : ℕ) (last next : Entry) → k < length sorted → last ≡ get_or sorted (k - 1) blank
       → position_in (get_or sorted k blank) ≡ Some p → next ≡ get_or sorted k blank → position_in next ≡ Some q
       → ((last.hash ≡ (get_or sorted k blank).hash) × (entry_key keys last ≡ entry_key keys (get_or sorted k blank)) → ⊥)
@@ -109,7 +109,7 @@ module _ {n : ℕ} {hash : List ℕ → ℕ} (keys : List (List ℕ)) (sorted : 
             )),
       )
 
-  -- and the previous entry has an earlier index of the same key
+  -- if the key is that of the previous entry, that entry has an earlier index
   pub same_key : (k p q : ℕ) (last next : Entry) → k < length sorted → last ≡ get_or sorted (k - 1) blank
       → position_in (get_or sorted k blank) ≡ Some p → next ≡ last → position_in next ≡ Some q
       → (last.hash ≡ (get_or sorted k blank).hash) × (entry_key keys last ≡ entry_key keys (get_or sorted k blank))

@@ -59,7 +59,7 @@ module _ {V : Type 0} (all : List (List ℕ × V)) (earlier : List ℕ) (are : A
       (sym (get_or_read places n e (omega (arith, in_all, count)) t.read 0 ∙ t.so_far.rest n (omega arith)))
       (are.each n (omega (arith, in_all, keys-length all)))
 
-  -- its key among those inserted
+  -- the pair's key among the inserted keys
   at_is : at (take k new) (get_or (keys_of new) k []) ≡ at (take k pairs) pair.0
   at_is = ap₂ at (moved_first pairs new k n t.so_far.within t.more t.moved) (next_key pairs new k n t.so_far.within t.more t.moved)
 
@@ -80,11 +80,11 @@ module _ {V : Type 0} (all : List (List ℕ × V)) (earlier : List ℕ) (are : A
     | inr own ↦ absurd (other own.0)
   ]
 
-  -- it is below the length
+  -- the earlier index is below the length
   pub within : e ≢ n → e < length places
   within other = omega (arith, (earlier_one other).0, in_all, count)
 
-  -- and the index of the key is there
+  -- the index of the key is at the earlier index
   place_of : e ≢ n → (place : ℕ) → place ≡ get_or places e place → at (take k pairs) pair.0 ≡ Some place
   place_of other place read = (earlier_one other).1 ∙ ap Some (sym (get_or_read places e place (within other) read 0))
 

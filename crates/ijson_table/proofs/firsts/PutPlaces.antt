@@ -22,7 +22,7 @@ module _ {V : Type 0} where
     | inr d ↦ simp (d.0, at-put_other ps k key v ne)
   ]
 
-  -- and that of a key that is present
+  -- an insertion keeps the index of a key that is present
   pub at-put_kept : (ps : List (List ℕ × V)) (k key : List ℕ) (v : V) (i : ℕ) → at ps key ≡ Some i → at (put ps k v) key ≡ Some i
   at-put_kept ps k key v i e = elim (same_key k key) [
     | inl s ↦ ap (λ qs. at qs key) (put-present ps i k v (ap (at ps) s.1 ∙ e))

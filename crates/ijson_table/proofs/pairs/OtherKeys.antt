@@ -12,20 +12,20 @@ module _ {V : Type 0} where
   set-key (p ∷ ps) zero pair key li e = ap (λ q. (key, q.1) ∷ ps) e
   set-key (p ∷ ps) (suc i) pair key li e = ap (λ l. p ∷ l) (set-key ps i pair key (omega arith) e)
 
-  -- the keys
+  -- the keys with another key at an index
   pub keys-with_key : (pairs : List (List ℕ × V)) (i : ℕ) (key : List ℕ) → keys_of (with_key pairs i key) ≡ set (keys_of pairs) i key
   keys-with_key [] i key = refl
   keys-with_key (p ∷ ps) zero key = refl
   keys-with_key (p ∷ ps) (suc i) key = ap (λ ks. p.0 ∷ ks) (keys-with_key ps i key)
 
-  -- a key that none of the keys equals, nor the new one
+  -- a missing key that differs from the new key stays missing
   lacks_with_key : (k : List ℕ) (pairs : List (List ℕ × V)) (i : ℕ) (key : List ℕ) → Lacks k (keys_of pairs) → k ≢ key
       → Lacks k (keys_of (with_key pairs i key))
   lacks_with_key k [] i key l other = tt
   lacks_with_key k (p ∷ ps) zero key l other = (other, l.1)
   lacks_with_key k (p ∷ ps) (suc i) key l other = (l.0, lacks_with_key k ps i key l.1 other)
 
-  -- they are distinct if the key was missing
+  -- keys stay distinct if the new key was missing
   pub distinct_with_key : (pairs : List (List ℕ × V)) (i : ℕ) (key : List ℕ) → IsDistinct (keys_of pairs) → i < length pairs
       → at pairs key ≡ None → IsDistinct (keys_of (with_key pairs i key))
   distinct_with_key [] i key d li missing = tt

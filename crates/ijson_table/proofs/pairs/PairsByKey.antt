@@ -77,11 +77,11 @@ module _ {V : Type 0} where
       let last : ℕ = length (pair ∷ pairs) - 1 in
       ap keys_of (sym (swap_out-is (pair ∷ pairs) i pair li)) ∙ simp (← take-map, map-set, key_at (pair ∷ pairs) last pair (omega arith))
 
-  -- they are one less
+  -- a removal leaves one key fewer
   pub length-swap_out : (pairs : List (List ℕ × V)) (i : ℕ) → i < length pairs → length (keys_of (swap_out pairs i)) + 1 ≡ length pairs
   length-swap_out pairs i li = simp (keys-swap_out pairs i li, length-take, length-set, keys-length) (omega (arith, li))
 
-  -- each is an old one: the last takes the index of the removed one
+  -- a removal keeps the other keys: the last takes the removed key's index
   came_from : (pairs : List (List ℕ × V)) (i j : ℕ) → i < length pairs → j + 1 < length pairs
       → get_or (keys_of (swap_out pairs i)) j [] ≡ get_or (keys_of pairs) (if eqb j i then length pairs - 1 else j) []
   came_from pairs i j li lj =
@@ -90,7 +90,7 @@ module _ {V : Type 0} where
       let read = ap (λ ks. get_or ks j []) (keys-swap_out pairs i li) ∙ get_or-take (length pairs - 1) (set keys i last) j [] (omega arith) in
       grind (arith, nat_tests, read, get_or-set_at, get_or-set_other, keys-length pairs)
 
-  -- and they are distinct
+  -- keys stay distinct after a removal
   pub distinct_swapped : (pairs : List (List ℕ × V)) (i : ℕ) → IsDistinct (keys_of pairs) → i < length pairs
       → IsDistinct (keys_of (swap_out pairs i))
   distinct_swapped pairs i d li =
@@ -111,7 +111,7 @@ module _ {V : Type 0} where
       (grind (arith, nat_tests, keys-length pairs)) (omega (arith, keys-length pairs)) (sym (came_from pairs i j li lj') ∙ e) in
       grind (arith, nat_tests, same))
 
-  -- a key that differs from one more is still lacking
+  -- a missing key that differs from an appended key stays missing
   lacks_pushed : (key : List ℕ) (pairs : List (List ℕ × V)) (pair : List ℕ × V) → Lacks key (keys_of pairs) → key ≢ pair.0
       → Lacks key (keys_of (pairs ++ pair ∷ []))
   lacks_pushed key [] pair l other = (other, tt)
@@ -144,7 +144,7 @@ module _ {V : Type 0} where
     | inr d ↦ lookup-other p ps key d.1 ∙ lookup-position ps key d.2 pair d.3 (omega (arith, d.4, li)) (is ∙ ap (λ n. get_or (p ∷ ps) n pair) (sym d.4))
   ]
 
-  -- so is that of a pair that was read
+  -- a pair read at the index of a key has the key's value
   pub lookup-found : (pairs : List (List ℕ × V)) (key : List ℕ) (i : ℕ) (pair : List ℕ × V) → at pairs key ≡ Some i
       → slice_get pairs i ≡ Some pair → lookup key pairs ≡ Some pair.1
   lookup-found pairs key i pair e is = lookup-position pairs key i pair e (position_within pairs key i e)

@@ -48,7 +48,7 @@ module _ {V : Type 0} where
       ap (λ ps. put_each ps more) (put-absent pairs pair.0 pair.1 (missing pairs pair more d))
       ∙ (put_each-new (pairs ++ pair ∷ []) more (subst (λ ps. IsDistinct (keys_of ps)) (sym whole) d) ∙ whole)
 
-  -- so the first ones may be present already, if their keys are distinct
+  -- the first pairs may be present already, if their keys are distinct
   pub put_each-split : (pairs : List (List ℕ × V)) (n : ℕ) → IsDistinct (keys_of (take n pairs))
       → put_each (take n pairs) (drop n pairs) ≡ put_each [] pairs
   put_each-split pairs n d =
@@ -68,7 +68,7 @@ module _ {V : Type 0} where
         | Some i ↦ λ e. rw (put-present pairs i key value e, keys-with_value pairs i value) d
       ] refl
 
-  -- so does inserting all of a list
+  -- inserting a list keeps the keys distinct
   pub put_each-distinct : (pairs more : List (List ℕ × V)) → IsDistinct (keys_of pairs) → IsDistinct (keys_of (put_each pairs more))
   put_each-distinct pairs [] d = d
   put_each-distinct pairs (pair ∷ more) d = put_each-distinct (put pairs pair.0 pair.1) more (put-distinct pairs pair.0 pair.1 d)

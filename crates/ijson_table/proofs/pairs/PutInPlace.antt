@@ -11,17 +11,17 @@ use Rattle.ijson_table.proofs.pairs.KeyPositions.{position-some}
 use Rattle.ijson_table.proofs.pairs.PairsByKey.{key_at, position_within, put-absent, put-present, set-value}
 
 module _ {X : Type 0} where
-  -- an exchange behind the first n
+  -- a swap after the first n keeps them
   take-swap : (xs : List X) (n i j : ℕ) → n ≤ i → n ≤ j → take n (swap xs i j) ≡ take n xs
   take-swap [] n i j ni nj = refl
   take-swap (x ∷ xs) n i j ni nj = simp take-set-le
 
-  -- an exchange among the first n
+  -- a swap among the first n keeps the others
   drop-swap : (xs : List X) (n i j : ℕ) → i < n → j < n → drop n (swap xs i j) ≡ drop n xs
   drop-swap [] n i j ni nj = refl
   drop-swap (x ∷ xs) n i j ni nj = simp drop-set-lt
 
--- the pair at p is put behind the first k
+-- the pair at p is moved to index k
 pub record Moved {V : Type 0} (old new : List (List ℕ × V)) (k p : ℕ) : Type 0 where
   pub pair : List ℕ × V
   pub is : pair ≡ get_or new k pair
@@ -39,11 +39,11 @@ moved (x ∷ xs) new k p kp lp is =
     }
 
 module _ {V : Type 0} (old new : List (List ℕ × V)) (k p : ℕ) (kp : k ≤ p) (lp : p < length old) (is : new ≡ swap old k p) where
-  -- the first k stay
+  -- the first k pairs stay
   pub moved_first : take k new ≡ take k old
   moved_first = ap (take k) is ∙ take-swap old k k p (omega arith) kp
 
-  -- so do those after p
+  -- the pairs after p stay
   pub moved_left : drop (p + 1) new ≡ drop (p + 1) old
   moved_left = ap (drop (p + 1)) is ∙ drop-swap old (p + 1) k p (omega (arith, kp)) (omega arith)
 
@@ -56,12 +56,12 @@ module _ {V : Type 0} (old new : List (List ℕ × V)) (k p : ℕ) (kp : k ≤ p
   pub next_key : get_or (keys_of new) k [] ≡ next.pair.0
   next_key = key_at new k next.pair within ∙ ap (λ x. x.0) (sym next.is)
 
-  -- so inserting those from p on is inserting this one and then those after it
+  -- inserting the pairs from p on begins with the pair at p
   next_left : put_each (put (take k old) next.pair.0 next.pair.1) (drop (p + 1) new) ≡ put_each (take k old) (drop p old)
   next_left = ap (put_each (put (take k old) next.pair.0 next.pair.1)) moved_left
       ∙ sym (at_drop_more (put_each (take k old)) old p next.pair lp ∙ ap (λ x. put_each (put (take k old) x.0 x.1) (drop (p + 1) old)) (sym next.was))
 
-  -- if its key is new, there is one more
+  -- if the key of the pair is new, the pair is inserted
   pub one_more : at (take k new) (get_or (keys_of new) k []) ≡ None → take (k + 1) new ≡ put (take k old) next.pair.0 next.pair.1
   one_more missing =
       let appended = put-absent (take k new) next.pair.0 next.pair.1 (ap (at (take k new)) (sym next_key) ∙ missing) in

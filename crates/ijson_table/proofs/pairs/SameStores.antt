@@ -13,7 +13,7 @@ store_path s t e f = λ j. record {
   distinct = is_prop→PathP (λ k. IsDistinct (keys_of (e k))) (λ k. IsDistinct-prop (keys_of (e k))) s.distinct t.distinct j;
 }
 
--- so are two tables that also have the same slots
+-- two tables with the same pairs, capacity and slots are equal
 pub placed_path : {V : Type 0} (s t : Placed V) → s.store.pairs ≡ t.store.pairs → s.store.capacity ≡ t.store.capacity → s.slots ≡ t.slots
     → s ≡ t
 placed_path s t e f g = λ j. record { store = store_path s.store t.store e f j; slots = g j }

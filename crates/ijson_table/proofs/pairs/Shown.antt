@@ -3,14 +3,11 @@ use Rattle.std.proofs.Common.{◌≡◌, length, ap}
 use Rattle.ijson_table.specs.Placed.{Placed}
 
 module _ {V : Type 0} {inside shown : Placed V} (same : inside ≡ shown) where
-  -- its pairs
   pub pairs_shown : inside.store.pairs ≡ shown.store.pairs
   pairs_shown = ap (λ t. t.store.pairs) same
 
-  -- their number
   pub count_shown : length inside.store.pairs ≡ length shown.store.pairs
   count_shown = ap length pairs_shown
 
-  -- and its capacity
   pub room_shown : inside.store.capacity ≡ shown.store.capacity
   room_shown = ap (λ t. t.store.capacity) same

@@ -9,7 +9,7 @@ use Rattle.ijson_table.specs.private.Insertion.{IsTableOf}
 use Rattle.ijson_table.proofs.pairs.PairsByKey.{distinct_pushed}
 use Rattle.ijson_table.proofs.probing.KeyHashes.{hashes, length-hashes, hashes-push}
 
--- they depend on the first keys alone
+-- slots with the first pairs depend on the first keys alone
 pub same_first : {V : Type 0} {hash : List ℕ → ℕ} {old new : List (List ℕ × V)} {n : ℕ} {slots : List Slot} → FirstPlaced hash old n slots
     → keys_of (take n new) ≡ keys_of (take n old) → FirstPlaced hash new n slots
 same_first {hash = hash} {slots = slots} placed same = record {

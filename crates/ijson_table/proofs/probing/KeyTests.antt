@@ -44,7 +44,7 @@ same_test r k key is = elim (same_key k key) [
 pub is_key-true : (keys : List (List ℕ)) (key : List ℕ) (i : ℕ) → is_key keys key i ≡ true → get_or keys i [] ≡ key
 is_key-true keys key i = (bytes_decides (get_or keys i []) key).0
 
--- and one that fails it is not
+-- a key that fails the test is not the one
 pub is_key-false : (keys : List (List ℕ)) (key : List ℕ) (i : ℕ) → is_key keys key i ≡ false → get_or keys i [] ≢ key
 is_key-false keys key i e same = let yes_it = (bytes_decides (get_or keys i []) key).1 same in absurd (cc (yes_it, e))
 

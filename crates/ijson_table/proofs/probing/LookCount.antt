@@ -72,7 +72,7 @@ module _ (hash : List ℕ → ℕ) (keys : List (List ℕ)) (slots : List (Optio
   abbrev hashes : List ℕ
   hashes = map hash keys
 
-  -- it inspected each slot that it passed, and at most one more
+  -- a lookup inspects each slot that it passes, and at most one more
   bounded_by : (c : ℕ) → length slots ≡ slot_count c → (key : List ℕ) (m looks : ℕ) → 0 < looks → m ≤ length slots
       → looks ≤ length slots → looks ≤ m + 1
       → Passed (displacement hashes slots) (length slots) (home_of hash (length slots) key) m → IsBounded hash keys slots c key looks
@@ -92,13 +92,13 @@ module _ (hash : List ℕ → ℕ) (keys : List (List ℕ)) (slots : List (Optio
     some_look = λ _. some;
   }
 
-  -- it ended at the slot after those that it passed
+  -- a lookup ends after the slots that it passes
   pub bounded_there : (c : ℕ) → length slots ≡ slot_count c → (key : List ℕ) (m looks : ℕ) → m < length slots → looks ≡ m + 1
       → Passed (displacement hashes slots) (length slots) (home_of hash (length slots) key) m → IsBounded hash keys slots c key looks
   bounded_there c size key m looks lm is passed =
       bounded_by c size key m looks (omega arith) (omega arith) (omega arith) (omega arith) passed
 
-  -- it passed all slots
+  -- a lookup passes all slots
   pub bounded_all : (c : ℕ) → length slots ≡ slot_count c → (key : List ℕ) (looks : ℕ) → looks ≡ length slots
       → Passed (displacement hashes slots) (length slots) (home_of hash (length slots) key) (length slots)
       → IsBounded hash keys slots c key looks

@@ -115,7 +115,7 @@ module _ (hash : List ℕ → ℕ) (keys : List (List ℕ)) (slots : List (Optio
         (displacement-none hashes slots e.0 e.2) ends.0,
   )
 
-  -- and a bound on the inspections
+  -- a bound on the inspections
   pub bounded : (c : ℕ) → length slots ≡ slot_count c → (end : Probed) (looks : ℕ)
       → Ends slots (displacement hashes slots) home seeks looks end → IsBounded hash keys slots c key looks
   bounded c size (Found i p) looks ends = bounded_there hash keys slots t c size key ends.0 looks ends.1.within ends.1.looked ends.1.passed

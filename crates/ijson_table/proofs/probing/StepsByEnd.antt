@@ -30,11 +30,11 @@ module _ (slots : List (Option ℕ)) (displacements : ℕ → ℕ) (h : ℕ) (se
         few = omega (arith, e.within, e.looked);
       }
 
-  -- so it is if it found the target
+  -- a probe that found the target ended at its slot
   pub ended_found : (looks at p : ℕ) → Ends slots displacements h seeks looks (Found at p) → EndedAt (length slots) h looks p
   ended_found looks at p ends = ended_after looks p ends.0 ends.1
 
-  -- and if the target is missing
+  -- a probe without the target ended at an empty slot
   pub ended_vacant : (looks p : ℕ) → Ends slots displacements h seeks looks (Vacant p) → EndedAt (length slots) h looks p
   ended_vacant looks p ends = ended_after looks p ends.0 ends.1
 

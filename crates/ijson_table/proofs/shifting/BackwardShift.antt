@@ -140,7 +140,7 @@ module _ (hashes : List ℕ) (slots : List (Option ℕ)) (p : ℕ) (gap : HasGap
       ap (one_if i) (get_or-set_other slots p p' (Some k) None moves ∙ there),
     )
 
-    -- and the total of the displacements is less
+    -- the total of the displacements is less
     pub shift_falls : all_displacements hashes last < all_displacements hashes slots
     unfolding all_displacements
     shift_falls = omega (

@@ -34,7 +34,7 @@ module _ {V : Type 0} where
   pub keys-shift_out : (pairs : List (List ℕ × V)) (i : ℕ) → keys_of (shift_out pairs i) ≡ remove (keys_of pairs) i
   keys-shift_out pairs i = map-remove (λ pair. pair.0) pairs i
 
-  -- they are distinct
+  -- the keys stay distinct after a pair is removed
   pub distinct_shifted : (pairs : List (List ℕ × V)) (i : ℕ) → IsDistinct (keys_of pairs) → i < length pairs
       → IsDistinct (keys_of (shift_out pairs i))
   distinct_shifted pairs i d li =
@@ -47,7 +47,7 @@ module _ {V : Type 0} where
       (sym (get_or-remove keys i j [] within) ∙ (e ∙ get_or-remove keys i k [] within)) in
       grind (arith, nat_tests, same)))
 
-  -- and without the removed one
+  -- the removed key is missing
   pub shifted_lacks : (pairs : List (List ℕ × V)) (i : ℕ) → IsDistinct (keys_of pairs) → i < length pairs
       → at (shift_out pairs i) (get_or (keys_of pairs) i []) ≡ None
   shifted_lacks pairs i d li =

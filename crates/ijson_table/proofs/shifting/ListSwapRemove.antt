@@ -15,7 +15,7 @@ swap_remove-same xs i li =
     get_or-take (length xs - 1) (set xs i (get_or xs (length xs - 1) 0)) i 0 (omega arith)
     ∙ get_or-set_same xs i (get_or xs (length xs - 1) 0) 0 (omega arith)
 
--- and the others stay
+-- the other indices stay
 pub swap_remove-other : (xs : List ℕ) (i j : ℕ) → i < length xs → j + 1 < length xs → j ≢ i
     → get_or (swap_remove xs i 0) j 0 ≡ get_or xs j 0
 swap_remove-other xs i j li lj ne =

@@ -79,7 +79,7 @@ module _ (hashes : List ℕ) (gone : ℕ) (within : gone < length hashes) (slots
   same_hash : (k : ℕ) → k ≢ gone → get_or hashes' (lower gone k) 0 ≡ get_or hashes k 0
   same_hash k other = get_or-remove hashes gone (lower gone k) 0 within ∙ ap (λ i. get_or hashes i 0) (raise-lower gone k other)
 
-  -- so a resident is displaced as before
+  -- a resident with a lowered index is displaced as before
   displaced-lowered : (n p : ℕ) (o : Option ℕ) → ((k : ℕ) → o ≡ Some k → k ≢ gone) → displaced n hashes' p (lowered gone o) ≡ displaced n hashes p o
   unfolding home_at
   displaced-lowered n p None others = refl

@@ -27,7 +27,7 @@ unfolding home_at
 displaced-as n hashes hashes' p None same = refl
 displaced-as n hashes hashes' p (Some i) same = ap (λ x. distance n (x % n) p + 1) (same i refl)
 
--- so is each slot displaced
+-- a slot is displaced equally by hashes that agree there
 pub displacement-as : (hashes hashes' : List ℕ) (slots : List (Option ℕ)) (p : ℕ)
     → ((i : ℕ) → resident slots p ≡ Some i → get_or hashes' i 0 ≡ get_or hashes i 0)
     → displacement hashes' slots p ≡ displacement hashes slots p
@@ -57,7 +57,7 @@ module _ (hashes : List ℕ) (gone : ℕ) (slots : List Slot) (left : IsTableBut
   pub stands_still : (i : ℕ) → i < length hashes → i ≢ gone → (p : ℕ) × (p < length ps) × (resident ps p ≡ Some i)
   stands_still i li ne = let one : times i ps ≡ 1 = grind (arith, nat_tests, left.holds.placed i) in stands i ps (omega arith)
 
-  -- and nothing else
+  -- only the other indices are in slots
   pub stays : (p k : ℕ) → p < length ps → resident ps p ≡ Some k → (k < length hashes) × (k ≢ gone)
   stays p k lp e = let some = times-some k ps p lp e in (
     grind (arith, nat_tests, left.holds.placed k, some),
@@ -68,7 +68,7 @@ module _ (hashes : List ℕ) (gone : ℕ) (slots : List Slot) (left : IsTableBut
     as_before : (p k : ℕ) → p < length ps → resident ps p ≡ Some k → get_or hashes' k 0 ≡ get_or hashes k 0
     as_before p k lp e = let who = stays p k lp e in same k who.0 who.1
 
-    -- so other hashes of the index that was removed fit the slots
+    -- the slots are in order with another hash of the removed index
     pub but_ordered : IsOrdered hashes' ps
     but_ordered = ordered-as hashes hashes' ps left.holds.ordered as_before
 

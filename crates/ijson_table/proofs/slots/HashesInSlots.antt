@@ -67,7 +67,7 @@ module _ (n : ℕ) (hashes : List ℕ) where
   unfolding home_at
   hash-home i slot has at = ap (λ h. h % n) (has i at) ∙ kept-home n (get_or hashes i 0)
 
-  -- so it gives the distance of a slot from the home slot of its resident
+  -- the stored hash gives the distance from the home slot
   pub hash-distance : (p i d : ℕ) (slot : Slot) → HasHash n hashes slot → position_in slot ≡ Some i → d ≡ distance n (slot.hash % n) p
       → d ≡ distance n (home_at n hashes i) p
   hash-distance p i d slot has at is = is ∙ ap (λ h. distance n h p) (hash-home i slot has at)

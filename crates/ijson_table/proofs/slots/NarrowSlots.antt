@@ -27,7 +27,7 @@ kept-within n h few some =
     let below : h % (n * 256) < n * 256 = mod-lt h (omega (arith, some)) in
     omega (arith, kept-narrow n h few, below)
 
--- so it fits, with an index below that number
+-- the kept part of a hash fits, with an index below the number of slots
 pub may_hold : (n position part h : ℕ) → part ≡ kept n h → position < n → MayHold n position part
 may_hold n position part h is room few =
     (omega (arith, few, room), omega (arith, few, is, kept-within n h few (omega (arith, room))))

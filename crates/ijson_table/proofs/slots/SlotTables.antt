@@ -25,7 +25,7 @@ empty_table slots empty = record {
   hashes_are = hashes-none (length slots) [] slots empty;
 }
 
--- in such a table, a slot that is read is empty
+-- in a table without keys, a slot is empty
 nothing_there : (slots : List Slot) → IsTableOf [] slots → (p : ℕ) → p < length slots → (read : Option ℕ)
     → read ≡ position_in (get_or slots p blank) → position_in (get_or slots p blank) ≡ None
 nothing_there slots are p lp None e = sym e
@@ -33,7 +33,7 @@ nothing_there slots are p lp (Some i) e =
     let one = times-some i (positions slots) p (omega (arith, lp, positions-length slots)) (position-at slots p (Some i) lp e) in
     absurd (grind (arith, nat_tests, one, are.table.placed i))
 
--- so all are
+-- in a table without keys, all slots are empty
 pub each_empty : (slots : List Slot) → IsTableOf [] slots → All (λ slot. position_in slot ≡ None) slots
 each_empty slots are = All-from_get_or (λ slot. position_in slot ≡ None) slots blank
     (λ p lp. nothing_there slots are p lp (position_in (get_or slots p blank)) refl)
@@ -60,7 +60,7 @@ module _ (hashes : List ℕ) (slots : List Slot) (are : IsTableOf hashes slots) 
     empty = left_empty hashes (positions slots) are.table (omega (arith, next, room, positions-length slots));
   }
 
-  -- and was
+  -- one more index was inserted into the slots
   pub pushed : (new : List Slot) → length new ≡ length slots
       → Holds (hashes ++ hash ∷ []) (with_one (positions slots) position) None (positions new)
       → HaveHashes (length slots) (hashes ++ hash ∷ []) new → IsTableOf (hashes ++ hash ∷ []) new

@@ -15,34 +15,34 @@ take_set (suc n) i [] x = refl
 take_set (suc n) zero (y ∷ xs) x = refl
 take_set (suc n) (suc i) (y ∷ xs) x = ap (λ rest. y ∷ rest) (take_set n i xs x)
 
--- a change among slots of three bytes is one among the represented slots
+-- a change of a slot of three bytes changes the represented slot
 pub narrow-set : (slots : List NarrowSlot) (i : ℕ) (narrow : NarrowSlot) (slot : Slot) → widened narrow ≡ slot
     → map widened (set slots i narrow) ≡ set (map widened slots) i slot
 narrow-set slots i narrow slot same =
     map-set widened slots i narrow ∙ ap (λ entry. set (map widened slots) i entry) same
 
--- so it is among the first of them
+-- a change of one of the first slots of three bytes
 pub few-set : (n : ℕ) (slots : List NarrowSlot) (i : ℕ) (narrow : NarrowSlot) (slot : Slot) → widened narrow ≡ slot
     → map widened (take n (set slots i narrow)) ≡ set (map widened (take n slots)) i slot
 few-set n slots i narrow slot same = ap (map widened) (take_set n i slots narrow) ∙ narrow-set (take n slots) i narrow slot same
 
--- all of them are empty
+-- all slots are empty
 abbrev pub IsEmpty : List Slot → Type 0
 IsEmpty slots = All (λ slot. position_in slot ≡ None) slots
 
--- so are copies of an empty slot
+-- copies of an empty slot are empty
 pub wide-empty : (slots : List Slot) (n : ℕ) (slot : Slot) → slots ≡ replicate n slot → position_in slot ≡ None → IsEmpty slots
 wide-empty slots n slot each none =
     subst IsEmpty (sym each) (All-replicate (λ slot. position_in slot ≡ None) n slot none)
 
--- so are copies of three bytes that represent an empty slot
+-- copies of an empty slot of three bytes are empty
 pub narrow-empty : (slots : List NarrowSlot) (n : ℕ) (narrow : NarrowSlot) → slots ≡ replicate n narrow → widened narrow ≡ blank
     → IsEmpty (map widened slots)
 narrow-empty slots n narrow each same = subst (λ ns. IsEmpty (map widened ns)) (sym each)
     (All-map (λ slot. position_in slot ≡ None) widened (replicate n narrow)
     (All-replicate (λ slot. position_in (widened slot) ≡ None) n narrow (ap position_in same)))
 
--- so are the first of these
+-- the first copies of an empty slot of three bytes are empty
 pub few-empty : (m : ℕ) (slots : List NarrowSlot) (n : ℕ) (narrow : NarrowSlot) → slots ≡ replicate n narrow → widened narrow ≡ blank
     → IsEmpty (map widened (take m slots))
 few-empty m slots n narrow each same = subst IsEmpty (take-map widened m slots)

@@ -7,7 +7,7 @@ use Rattle.ijson_table.specs.private.Sorting.{Entry}
 abbrev pub home_in : ℕ → Entry → ℕ
 home_in n entry = entry.hash % n
 
--- that of the entry at an index
+-- the home slot of the entry at an index
 abbrev pub home_of_entry : ℕ → List Entry → ℕ → ℕ
 home_of_entry n entries k = home_in n (get_or entries k blank)
 

@@ -10,7 +10,7 @@ module _ {X : Type 0} (all : List X) where
   abbrev starts : List X → List X → Type 0
   starts xs it = it ≡ xs
 
-  -- it yields its entries
+  -- the source yields its entries
   pub gives_list : GivesList starts (YieldsFirst (λ (s : List X). s)) all all
   gives_list xs gives = sym (all_given gives.0 xs gives.2) ∙ gives.1
 
@@ -31,7 +31,7 @@ module _ {X : Type 0} (all : List X) where
   all_put (Ok x) item F P (added, p, gives) = subst P (gives_list added gives) p
   all_put (Err e) item F P put = tt
 
-  -- or of those before the one returned
+  -- a property of the entries before the one returned
   pub some_put : {A E : Type 0} (r : Result A E) (item : E → X) (F : E → Type 0) (P : List X → Type 0) → Put r item F P
       → IfErr r (λ e. (n : ℕ) × (slice_get all n ≡ Some (item e)) × P (take n all) × F e)
   some_put (Ok x) item F P put = tt

@@ -41,6 +41,6 @@ pub is_same_object : (ps qs : List (List ℕ × WellFormed)) (r : Bool) → r �
     → IsTrue r ↔ Same (object_tree ps) (object_tree qs)
 is_same_object ps qs = is_same (object_tree ps) (object_tree qs)
 
--- and a result that decides `Same` is that of the test
+-- a result that decides `Same` is the result of the test
 pub same_is : (t u : Tree) (r : Bool) → IsTrue r ↔ Same t u → r ≡ same t u
 same_is t u r h = one_answer r (same t u) h (decides t u)

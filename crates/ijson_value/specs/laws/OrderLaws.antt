@@ -158,7 +158,7 @@ below (array ts) (array us) h = itself 4
 below (object ps) (object qs) h = itself 5
 below t u h = no_later (rank t) (rank u) h
 
--- and a value of an earlier kind is lesser
+-- a value of an earlier kind is lesser
 earlier : (t u : Tree) → rank t < rank u → tree_cmp t u ≡ Some Less
 earlier null null h = absurd (not_below_itself 0 h)
 earlier (boolean a) (boolean b) h = absurd (not_below_itself 1 h)

@@ -11,7 +11,6 @@ module _ {V A B : Type 0} where
   list_items None = []
   list_items (Some list) = list.value.items
 
-  -- its capacity
   abbrev pub list_capacity : Option (Box (Vec V A) B) → ℕ
   list_capacity None = 0
   list_capacity (Some list) = vec_capacity list.value

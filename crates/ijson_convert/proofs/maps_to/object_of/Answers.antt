@@ -31,7 +31,7 @@ all_came g c all a =
     shown_all g.I.Iterator.next_gives deref_pair c.into_iter-key-iterator.ensures.into_iter_gives c.loop-key.yielded all
     c.loop-key.key-iterator c.next.new.self a c.loop-key.yielded_by c.in-None.ensures.steps
 
--- so the entries are those of all
+-- when none is yielded, the entries are those of all
 whole : (g : _) (c : In-None g) (all : List (String Global × g.row.T.Denot))
     → AlwaysYields g.I.Iterator.next_gives deref_pair c.args.entries all
     → SoFar (pair_tree g.T.ToIValue.tree) c.args.cache.now c.loop-key.pairs.items all c.loop-key.cache

@@ -134,7 +134,7 @@ all_done g t c =
     let done = c.loop-key.invariant.done in
     sym (c.loop-key.invariant.parts ∙ ap (λ ps. done ++ ps) c.in-None.ensures.steps.0 ∙ append-nil done)
 
--- and all strings are interned
+-- if none is left, all strings are interned
 all_texts : (g : Over) (t : ℕ) (c : copy_pairs-After-from_pairs g t)
     → c.loop-key.cache ≡ all_interned (texts_of (object_tree c.args.object.now.pairs)) c.args.cache.now
 all_texts g t c =

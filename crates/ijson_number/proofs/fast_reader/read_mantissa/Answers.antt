@@ -58,7 +58,7 @@ taken c p rest f =
     let s = c.split_at.ensures in
     whole_taken c.args.text.now _ _ _ _ p rest _ c.split_sign-negative.ensures s.front s.back s.front_len t.digits t.all f
 
--- and the fraction has few digits
+-- the fraction has few digits
 tail : (c : After-split_at) (p : Parts) (rest : List ℕ) (f : IsCommonFront c.args.text.now p rest)
     → IsFewFraction c.take_whole-number.result.0 c.take_whole-number.result.1 c.split_at.result.1.now f.fraction_text f.after
 tail c p rest f =

@@ -28,7 +28,7 @@ missed hashes slots position hash m s others ended =
     let no_it_is : eqb position position ≡ false = others by.0 position by.1 (ap (λ h. resident ps (onward (length ps) h by.0)) home ∙ by.2) in
     grind (arith, nat_tests, no_it_is)
 
--- so it finds the index
+-- the probe finds the index
 no_other : (hashes : List ℕ) (slots : List Slot) (position hash looks : ℕ) → Stands hashes slots position hash
     → (end : Probed) → Ends (positions slots) (displacement_in slots) (hash % length slots) (λ i. eqb i position) looks end
     → ((x : ℕ) × (end ≡ Vacant x)) ⊎ (end ≡ Full) → ⊥

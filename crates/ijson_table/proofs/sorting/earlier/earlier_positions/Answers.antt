@@ -12,7 +12,7 @@ use Rattle.ijson_table.proofs.sorting.earlier.earlier_positions.Goals.{then-not-
 stands : (g : Over) (c : Start g) (k : ℕ) → k < length c.args.sorted.now → position_in (get_or c.args.sorted.now k blank) ≢ None
 stands g c = each_stands (keys_of c.args.pairs.now) c.args.sorted.now c.requires.entries.2
 
--- so it can be unwrapped
+-- the index of an entry can be unwrapped
 is_there : (o p : Option ℕ) → o ≡ p → p ≢ None → IsSome o
 is_there None p is some = absurd (some (sym is))
 is_there (Some i) p is some = refl

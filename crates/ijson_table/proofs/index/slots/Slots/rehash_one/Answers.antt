@@ -22,11 +22,11 @@ use Rattle.ijson_table.proofs.index.slots.Slots.rehash_one.Goals as goal
 room : (g : Over) (c : After-take_out-modulus g) → length (hashes g.H.KeyHash.hash_of c.args.pairs.now) ≤ length c.take_out-modulus.new.slots
 room g c = omega (arith, c.requires.room, c.take_out-modulus.ensures.count, length-hashes g.H.KeyHash.hash_of c.args.pairs.now)
 
--- and the index is one of them
+-- the index is below the number of keys
 inside : (g : Over) (c : After-take_out-modulus g) → c.args.position < length (hashes g.H.KeyHash.hash_of c.args.pairs.now)
 inside g c = omega (arith, c.requires.within, length-hashes g.H.KeyHash.hash_of c.args.pairs.now)
 
--- so a slot is empty
+-- after the removal a slot is empty
 empty : (g : Over) (c : After-take_out-modulus g) → HasEmpty (positions c.take_out-modulus.new.slots)
 empty g c =
     let held = c.take_out-modulus.ensures.left.holds in

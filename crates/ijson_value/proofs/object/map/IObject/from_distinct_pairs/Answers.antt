@@ -38,7 +38,7 @@ returns-clause-pairs g c =
     subst (GivesAll g.I.IntoIterator.into_iter_gives g.I.IntoIter.Iterator.next_gives c.args.pairs) (sym (made ∙ last)) gives)
     c.from_pairs.ensures.pairs
 
--- and their number is `count`
+-- the number of the entries is `count`
 pub returns-clause-capacity : goal.returns-clause-capacity
 returns-clause-capacity g c =
     let yielded = c.loop-pair.yielded in
