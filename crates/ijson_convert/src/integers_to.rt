@@ -11,7 +11,7 @@ use ijson_value::value::IValue;
 use std::alloc::Global;
 use std::hash::BuildHasher;
 
-/// Converts an integer to a number without a decimal point. Does not allocate.
+/// Converts to a number without a decimal point. Does not allocate.
 impl ToIValue for i8 {
     ghost tree = { λ z. integer_tree z };
 
@@ -24,7 +24,7 @@ impl ToIValue for i8 {
     }
 }
 
-/// Converts an integer to a number without a decimal point. Does not allocate.
+/// Converts to a number without a decimal point. Does not allocate.
 impl ToIValue for i16 {
     ghost tree = { λ z. integer_tree z };
 
@@ -37,7 +37,7 @@ impl ToIValue for i16 {
     }
 }
 
-/// Converts an integer to a number without a decimal point. Does not allocate.
+/// Converts to a number without a decimal point. Does not allocate.
 impl ToIValue for i32 {
     ghost tree = { λ z. integer_tree z };
 
@@ -50,7 +50,7 @@ impl ToIValue for i32 {
     }
 }
 
-/// Converts an integer to a number without a decimal point. Does not allocate.
+/// Converts to a number without a decimal point. Does not allocate.
 impl ToIValue for i64 {
     ghost tree = { λ z. integer_tree z };
 
@@ -63,7 +63,7 @@ impl ToIValue for i64 {
     }
 }
 
-/// Converts an integer to a number without a decimal point. Does not allocate.
+/// Converts to a number without a decimal point. Does not allocate.
 impl ToIValue for isize {
     ghost tree = { λ z. integer_tree z };
 
@@ -76,7 +76,7 @@ impl ToIValue for isize {
     }
 }
 
-/// Converts an integer to a number without a decimal point. Does not allocate.
+/// Converts to a number without a decimal point. Does not allocate.
 impl ToIValue for u8 {
     ghost tree = { λ n. integer_tree (pos n) };
 
@@ -89,7 +89,7 @@ impl ToIValue for u8 {
     }
 }
 
-/// Converts an integer to a number without a decimal point. Does not allocate.
+/// Converts to a number without a decimal point. Does not allocate.
 impl ToIValue for u16 {
     ghost tree = { λ n. integer_tree (pos n) };
 
@@ -102,7 +102,7 @@ impl ToIValue for u16 {
     }
 }
 
-/// Converts an integer to a number without a decimal point. Does not allocate.
+/// Converts to a number without a decimal point. Does not allocate.
 impl ToIValue for u32 {
     ghost tree = { λ n. integer_tree (pos n) };
 
@@ -115,7 +115,7 @@ impl ToIValue for u32 {
     }
 }
 
-/// Converts an integer to a number without a decimal point. Does not allocate.
+/// Converts to a number without a decimal point. Does not allocate.
 impl ToIValue for u64 {
     ghost tree = { λ n. integer_tree (pos n) };
 
@@ -128,7 +128,7 @@ impl ToIValue for u64 {
     }
 }
 
-/// Converts an integer to a number without a decimal point. Does not allocate.
+/// Converts to a number without a decimal point. Does not allocate.
 impl ToIValue for usize {
     ghost tree = { λ n. integer_tree (pos n) };
 

@@ -10,7 +10,7 @@ use ijson_value::value::IValue;
 use std::alloc::Global;
 use std::hash::BuildHasher;
 
-/// Converts a Boolean. It does not allocate.
+/// Converts a Boolean. Does not allocate.
 impl ToIValue for bool {
     ghost tree = { λ b. boolean b };
 

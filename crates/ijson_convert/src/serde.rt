@@ -42,7 +42,7 @@ pub fn from_serde_number(number: &Number) -> Result<INumber, ConvertError>
 
 /// Converts a number to one of `serde_json` with its value; the decimal point is lost.
 ///
-/// It does not allocate.
+/// Does not allocate.
 ///
 /// # Errors
 ///

@@ -29,7 +29,7 @@ pub enum PointerError {
 
 /// Returns the value that `pointer` refers to inside `value` (RFC 6901), or `None` if there is none.
 ///
-/// The empty pointer refers to `value` itself. It does not allocate.
+/// The empty pointer refers to `value` itself. Does not allocate.
 ///
 /// ```
 /// let port = resolve(&value, "/servers/0/port")?; // Some of 80 in {"servers":[{"port":80}]}, where "/servers/1" is None

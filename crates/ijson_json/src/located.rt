@@ -47,7 +47,7 @@ impl JsonError {
     ///
     /// # Cost
     ///
-    /// Linear in the text before the offset. It does not allocate.
+    /// Linear in the text before the offset. Does not allocate.
     pub fn locate(self, text: &str) -> LocatedError
         ensures { Locates text.now self result }
     {

@@ -15,7 +15,7 @@ const LINE: usize = 64;
 /// Writes the line for an error, if there is one, to `errors`, and returns the exit status.
 ///
 /// The status is 0 for success, 1 for an input that is not JSON within the limits, 2 for a failed read or write, and 3 for a failed
-/// allocation. The line for `[1 2]` is `ijson: syntax at byte 3`. It does not allocate. A failed write ends the line and does not change
+/// allocation. The line for `[1 2]` is `ijson: syntax at byte 3`. Does not allocate. A failed write ends the line and does not change
 /// the status. The failures of `errors` must be below 2^64 - 1.
 pub fn report<W: Sink>(answer: &Result<(), CompactError>, errors: &mut W) -> u8
     requires { W.failed errors.old + 1 < 2 ^ 64 }

@@ -11,14 +11,14 @@ use crate::repr::stored::{MAX_DIGITS, Stored, StrippedNumber};
 use std::cmp::Ordering;
 
 impl INumber {
-    /// Returns the integer 0. It does not allocate.
+    /// Returns the integer 0. Does not allocate.
     pub fn zero() -> INumber
         ensures { IsInteger result.decimal (pos 0) }
     {
         INumber::from(0i64)
     }
 
-    /// Returns the integer 1. It does not allocate.
+    /// Returns the integer 1. Does not allocate.
     pub fn one() -> INumber
         ensures { IsInteger result.decimal (pos 1) }
     {
@@ -30,7 +30,7 @@ impl INumber {
     ghost use Rattle.ijson_number.specs.Integers.{integer};
     ghost use Rattle.ijson_number.specs.Order.{number_cmp};
 
-    /// Compares the value with an integer. It does not allocate.
+    /// Compares the value with an integer. Does not allocate.
     ///
     /// `number.cmp_i64(10).is_gt()` holds for `10.5`, and `is_eq()` for `10.0`.
     pub fn cmp_i64(&self, value: i64) -> Ordering
@@ -39,7 +39,7 @@ impl INumber {
         self.cmp(&INumber::from(value))
     }
 
-    /// Compares the value with an integer. It does not allocate.
+    /// Compares the value with an integer. Does not allocate.
     ///
     /// Like `cmp_i64`.
     pub fn cmp_u64(&self, value: u64) -> Ordering
@@ -58,7 +58,7 @@ impl Default for INumber {
     }
 }
 
-/// Converts an integer to a number without a decimal point. Does not allocate.
+/// Converts to a number without a decimal point. Does not allocate.
 impl From<i64> for INumber {
     ghost from_gives = { λ z n. IsInteger n.decimal z };
 
@@ -69,7 +69,7 @@ impl From<i64> for INumber {
     }
 }
 
-/// Converts an integer to a number without a decimal point. Does not allocate.
+/// Converts to a number without a decimal point. Does not allocate.
 impl From<u64> for INumber {
     ghost from_gives = { λ value n. IsInteger n.decimal (pos value) };
 
@@ -80,7 +80,7 @@ impl From<u64> for INumber {
     }
 }
 
-/// Converts an integer to a number without a decimal point. Does not allocate.
+/// Converts to a number without a decimal point. Does not allocate.
 impl From<i8> for INumber {
     ghost from_gives = { λ value n. IsInteger n.decimal value };
 
@@ -89,7 +89,7 @@ impl From<i8> for INumber {
     }
 }
 
-/// Converts an integer to a number without a decimal point. Does not allocate.
+/// Converts to a number without a decimal point. Does not allocate.
 impl From<i16> for INumber {
     ghost from_gives = { λ value n. IsInteger n.decimal value };
 
@@ -98,7 +98,7 @@ impl From<i16> for INumber {
     }
 }
 
-/// Converts an integer to a number without a decimal point. Does not allocate.
+/// Converts to a number without a decimal point. Does not allocate.
 impl From<i32> for INumber {
     ghost from_gives = { λ value n. IsInteger n.decimal value };
 
@@ -107,7 +107,7 @@ impl From<i32> for INumber {
     }
 }
 
-/// Converts an integer to a number without a decimal point. Does not allocate.
+/// Converts to a number without a decimal point. Does not allocate.
 impl From<isize> for INumber {
     ghost from_gives = { λ value n. IsInteger n.decimal value };
 
@@ -116,7 +116,7 @@ impl From<isize> for INumber {
     }
 }
 
-/// Converts an integer to a number without a decimal point. Does not allocate.
+/// Converts to a number without a decimal point. Does not allocate.
 impl From<u8> for INumber {
     ghost from_gives = { λ value n. IsInteger n.decimal (pos value) };
 
@@ -125,7 +125,7 @@ impl From<u8> for INumber {
     }
 }
 
-/// Converts an integer to a number without a decimal point. Does not allocate.
+/// Converts to a number without a decimal point. Does not allocate.
 impl From<u16> for INumber {
     ghost from_gives = { λ value n. IsInteger n.decimal (pos value) };
 
@@ -134,7 +134,7 @@ impl From<u16> for INumber {
     }
 }
 
-/// Converts an integer to a number without a decimal point. Does not allocate.
+/// Converts to a number without a decimal point. Does not allocate.
 impl From<u32> for INumber {
     ghost from_gives = { λ value n. IsInteger n.decimal (pos value) };
 
@@ -143,7 +143,7 @@ impl From<u32> for INumber {
     }
 }
 
-/// Converts an integer to a number without a decimal point. Does not allocate.
+/// Converts to a number without a decimal point. Does not allocate.
 impl From<usize> for INumber {
     ghost from_gives = { λ value n. IsInteger n.decimal (pos value) };
 

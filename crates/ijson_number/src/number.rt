@@ -256,7 +256,7 @@ impl INumber {
 
     /// Returns the representation. Digits are borrowed.
     ///
-    /// Numbers with the same value and decimal point have one form and one text, and no other number has that text. It does not allocate.
+    /// Numbers with the same value and decimal point have one form and one text, and no other number has that text. Does not allocate.
     /// `1.50` is `Packed` with the mantissa 15 and the exponent -1, `9223372036854775807` is `I64`, and `1e-9` is a list of one digit.
     pub fn form(&self) -> Form<'_>
         ensures form { form_value result ≡ form_of self.now.decimal }
@@ -356,7 +356,7 @@ impl Hash for INumber {
 
 /// Two numbers are equal if their values are; the decimal point is ignored.
 ///
-/// It does not allocate, and reads each digit at most once.
+/// Does not allocate, and reads each digit at most once.
 impl PartialEq for INumber {
     ghost eq = { λ a b. number_eq a.decimal b.decimal };
 
@@ -394,7 +394,7 @@ impl PartialOrd for INumber {
 
 /// Orders numbers by value; the decimal point is ignored.
 ///
-/// It does not allocate, and writes no exponent out as zeros. It reads digits only if the signs and the leading places are equal, and
+/// Does not allocate, and writes no exponent out as zeros. It reads digits only if the signs and the leading places are equal, and
 /// then at most two for each digit of the number with fewer.
 impl Ord for INumber {
     ghost cmp = { λ a b. number_cmp a.decimal b.decimal };

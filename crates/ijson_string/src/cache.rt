@@ -46,7 +46,7 @@ impl<S: BuildHasher> Model for StringCache<S> {
 }
 
 impl<S: BuildHasher> StringCache<S> {
-    /// Creates an empty cache, which does not allocate before its first string.
+    /// Creates an empty cache, which allocates at its first string.
     pub fn new(alloc: Global, hasher: S) -> StringCache<S>
         ensures { result.texts ≡ set.empty }
     {

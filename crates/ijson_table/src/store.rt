@@ -121,7 +121,7 @@ pub trait PairStore<V>: Sized {
 
     /// Shrinks the capacity to the length.
     ///
-    /// It does not allocate if the two are equal or the length is 0. Each entry moves at most once, and a table fills
+    /// Does not allocate if the two are equal or the length is 0. Each entry moves at most once, and a table fills
     /// new slots. If many of more than 63 keys collide, it sorts entries as in growth.
     ///
     /// # Errors

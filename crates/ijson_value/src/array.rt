@@ -232,7 +232,7 @@ impl IArray {
 
     /// Shrinks the capacity to the length.
     ///
-    /// It does not allocate if there is no spare capacity; otherwise it requests memory for a list of the length.
+    /// Does not allocate if there is no spare capacity; otherwise it requests memory for a list of the length.
     ///
     /// # Errors
     ///
@@ -281,7 +281,7 @@ fn grow(list: &mut Vec<IValue>, additional: usize) -> Result<(), AllocError>
 
 /// Arrays are equal if they have the same length and equal elements at each index.
 ///
-/// It does not allocate.
+/// Does not allocate.
 impl PartialEq for IArray {
     ghost eq = { λ a b. same (array_tree a.items) (array_tree b.items) };
 

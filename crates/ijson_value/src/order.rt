@@ -59,7 +59,7 @@ fn pairs_cmp(a: &IObject, b: &IObject) -> Option<Ordering>
 /// Values of different kinds are ordered like `ValueType`.
 ///
 /// Numbers are ordered by value, strings by their bytes, and arrays by the first elements that are not equal, then by length. Objects are
-/// `Equal` if they are equal, and otherwise unordered. It does not allocate.
+/// `Equal` if they are equal, and otherwise unordered. Does not allocate.
 impl PartialOrd for IValue {
     ghost partial_cmp = { λ a b. tree_cmp a.tree b.tree };
 

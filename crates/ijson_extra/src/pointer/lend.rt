@@ -47,7 +47,7 @@ pub enum Unresolved {
 ///
 /// # Cost
 ///
-/// That of `resolve`, plus up to two more passes over the pointer. It does not allocate. The stack grows with each token that leads to a
+/// That of `resolve`, plus up to two more passes over the pointer. Does not allocate. The stack grows with each token that leads to a
 /// value.
 pub fn resolve_mut<'a>(
     value: &'a mut IValue,

@@ -7,7 +7,7 @@ use std::marker::Model;
 
 /// A source of the bytes of a slice, at most `piece` in a call, that fails after `fail_at` bytes.
 ///
-/// It does not allocate.
+/// Does not allocate.
 #[derive(Drop)]
 pub struct MemorySource<'a> {
     left: &'a [u8],

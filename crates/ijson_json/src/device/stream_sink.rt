@@ -8,7 +8,7 @@ use std::marker::Model;
 
 /// A sink that writes to a writer.
 ///
-/// Any error is a fault, and so is a write that accepts none of some bytes. It does not allocate. Each call is one write of the writer;
+/// Any error is a fault, and so is a write that accepts none of some bytes. Does not allocate. Each call is one write of the writer;
 /// only `flush` flushes it.
 #[derive(Drop)]
 pub struct StreamSink<W> {

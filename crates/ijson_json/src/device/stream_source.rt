@@ -7,7 +7,7 @@ use std::marker::Model;
 
 /// A source that reads from a reader.
 ///
-/// Any error is a fault. It does not allocate: each call is one read of the reader.
+/// Any error is a fault. Does not allocate: each call is one read of the reader.
 #[derive(Drop)]
 pub struct StreamSource<R> {
     inner: R,

@@ -37,7 +37,7 @@ impl Model for IntoIter {
 }
 
 impl IArray {
-    /// Returns an iterator over the elements. It does not allocate.
+    /// Returns an iterator over the elements. Does not allocate.
     pub fn iter(&self) -> slice::Iter<'_, IValue>
         ensures items { iter_rest result ≡ self.now.items }
         ensures runs { IterYieldsInOrder WellFormed }
@@ -92,7 +92,7 @@ impl<'a> IntoIterator for &'a mut IArray {
     }
 }
 
-/// Yields each element once, first to last, then always `None`. It does not allocate.
+/// Yields each element once, first to last, then always `None`. Does not allocate.
 impl Iterator for IntoIter {
     type Item = IValue;
 

@@ -71,7 +71,7 @@ impl IObject {
 
     /// Replaces a key by another one at the same index, and returns the old key. The value and the capacity stay.
     ///
-    /// Replacing a key by itself changes nothing. It does not allocate.
+    /// Replacing a key by itself changes nothing. Does not allocate.
     ///
     /// # Errors
     ///

@@ -178,7 +178,7 @@ impl<'a> Entry<'a> {
 
     /// Inserts `default` if the entry is vacant, and returns a mutable reference to the value.
     ///
-    /// It does not allocate. If the entry is occupied, `default` is dropped.
+    /// Does not allocate. If the entry is occupied, `default` is dropped.
     pub fn or_insert(self, default: IValue) -> &'a mut IValue
         ensures* writes_back { sem 𝓛 (EntryLends self.entry result) }
         ensures value { result.now ≡ unwrap_or (entry_value self.entry) default }
@@ -194,7 +194,7 @@ impl<'a> Entry<'a> {
 
     /// Inserts the result of `default` if the entry is vacant, and returns a reference to the value.
     ///
-    /// `default` is not called if the entry is occupied. It does not allocate.
+    /// `default` is not called if the entry is occupied. Does not allocate.
     pub fn or_insert_with<F: FnOnce() -> IValue>(self, default: F) -> &'a mut IValue
         requires { entry_value self ≡ None → F.pre default }
         ensures* writes_back { sem 𝓛 (EntryLends self.entry result) }
@@ -264,7 +264,7 @@ impl<'a> OccupiedEntry<'a> {
         object.value_mut(index)
     }
 
-    /// Replaces the value and returns the old one. It does not allocate.
+    /// Replaces the value and returns the old one. Does not allocate.
     pub fn insert(&mut self, value: IValue) -> IValue
         ensures old { entry_value (Occupied self.old) ≡ Some result }
         ensures written { self.new ≡ with_entry_value self.old value }
@@ -272,7 +272,7 @@ impl<'a> OccupiedEntry<'a> {
         mem::replace(self.get_mut(), value)
     }
 
-    /// Removes the entry and returns its value. The last entry replaces it. It does not allocate.
+    /// Removes the entry and returns its value. The last entry replaces it. Does not allocate.
     pub fn remove(self) -> IValue
         ensures value { entry_value (Occupied self.entry) ≡ Some result }
         ensures removed { self.exit.0.now.pairs ≡ swap_out_key (entry_key (Occupied self.entry))
@@ -285,7 +285,7 @@ impl<'a> OccupiedEntry<'a> {
         value
     }
 
-    /// Removes and returns the entry. The last entry replaces it. It does not allocate.
+    /// Removes and returns the entry. The last entry replaces it. Does not allocate.
     pub fn remove_entry(self) -> (IString, IValue)
         ensures key { result.0 ≡ entry_key (Occupied self.entry) }
         ensures value { entry_value (Occupied self.entry) ≡ Some result.1 }
@@ -320,7 +320,7 @@ impl<'a> VacantEntry<'a> {
         key
     }
 
-    /// Appends the entry and returns a mutable reference to its value. It does not allocate.
+    /// Appends the entry and returns a mutable reference to its value. Does not allocate.
     pub fn insert(self, value: IValue) -> &'a mut IValue
         ensures* writes_back { sem 𝓛 (EntryLends (Vacant self.entry) result) }
         ensures value { result.now ≡ value }

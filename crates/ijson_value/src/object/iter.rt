@@ -93,7 +93,7 @@ impl Model for IntoIter {
 }
 
 impl IObject {
-    /// Returns an iterator over the entries. It does not allocate.
+    /// Returns an iterator over the entries. Does not allocate.
     ///
     /// Its `len` is the number of entries left.
     pub fn iter(&self) -> Iter<'_>
@@ -104,14 +104,14 @@ impl IObject {
         }
     }
 
-    /// Returns an iterator over the keys. It does not allocate.
+    /// Returns an iterator over the keys. Does not allocate.
     pub fn keys(&self) -> Keys<'_>
         ensures { result ≡ keys_of self.now.pairs }
     {
         Keys { left: self.iter() }
     }
 
-    /// Returns an iterator over the values. It does not allocate.
+    /// Returns an iterator over the values. Does not allocate.
     pub fn values(&self) -> Values<'_>
         ensures { result ≡ map (λ pair. pair.1) self.now.pairs }
     {
@@ -157,7 +157,7 @@ impl<'a> IntoIterator for &'a IObject {
     }
 }
 
-/// Yields each entry once, first to last, then always `None`. It does not allocate.
+/// Yields each entry once, first to last, then always `None`. Does not allocate.
 impl<'a> Iterator for Iter<'a> {
     type Item = (&'a IString, &'a IValue);
 
@@ -188,7 +188,7 @@ impl<'a> ExactSizeIterator for Iter<'a> {
     }
 }
 
-/// Yields each key once, first to last, then always `None`. It does not allocate.
+/// Yields each key once, first to last, then always `None`. Does not allocate.
 impl<'a> Iterator for Keys<'a> {
     type Item = &'a IString;
 
@@ -219,7 +219,7 @@ impl<'a> ExactSizeIterator for Keys<'a> {
     }
 }
 
-/// Yields each value once, first to last, then always `None`. It does not allocate.
+/// Yields each value once, first to last, then always `None`. Does not allocate.
 impl<'a> Iterator for Values<'a> {
     type Item = &'a IValue;
 
@@ -250,7 +250,7 @@ impl<'a> ExactSizeIterator for Values<'a> {
     }
 }
 
-/// Yields each entry once, first to last, then always `None`. It does not allocate.
+/// Yields each entry once, first to last, then always `None`. Does not allocate.
 impl Iterator for IntoIter {
     type Item = (IString, IValue);
 

@@ -194,7 +194,7 @@ impl IObject {
 
     /// Shrinks the capacity to the length.
     ///
-    /// It does not allocate if the capacity is the length already or the length is 0. Each entry is moved at most once.
+    /// Does not allocate if the capacity is the length already or the length is 0. Each entry is moved at most once.
     ///
     /// # Errors
     ///
@@ -266,7 +266,7 @@ impl IObject {
 
 /// Objects are equal if they have the same length and each key has an equal value in the other.
 ///
-/// It does not allocate.
+/// Does not allocate.
 impl PartialEq for IObject {
     ghost eq = { λ a b. same (object_tree a.pairs) (object_tree b.pairs) };
 

@@ -12,7 +12,7 @@ impl IObject {
     /// Keeps the entries for which `asks` returns `true`, with the values that `asks` writes.
     ///
     /// Entries are visited from the first. The last entry replaces a removed one and is visited next, so the order stays only if nothing is
-    /// removed. It does not allocate.
+    /// removed. Does not allocate.
     ///
     /// # Cost
     ///
