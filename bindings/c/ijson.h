@@ -7,7 +7,7 @@
  * - a length is the number of bytes at the pointer before it, which may be null if the length is 0; a result's pointer is not null;
  * - the output and the result are writable, and apart from each other and from the texts;
  * - nothing else, as another thread or a signal handler, changes a text or uses the output or the result during the call;
- * - the stack has 64 KiB left;
+ * - the stack has 72 KiB left;
  * - malloc, realloc and free are one allocator, which aligns a block to each power of two up to 16 that divides its size;
  * - the call is neither in a signal handler nor in a forked child of a process with threads.
  */
@@ -53,7 +53,7 @@ typedef struct {
  * failure the output is unchanged, and after success its bytes past *length are.
  */
 
-/* The text without white space. Members keep their order, and numbers their value and whether they have a fraction point. */
+/* The text without white space. Members keep their order, and numbers their value and whether they have a decimal point. */
 ijson_outcome ijson_compact(uint64_t seed, const uint8_t *text, size_t text_length, uint8_t *output, size_t output_length, size_t *length);
 
 /* The canonical text: two texts have the same one exactly if their values are equal. */
@@ -63,8 +63,7 @@ ijson_outcome ijson_canonical(uint64_t seed, const uint8_t *text, size_t text_le
 ijson_outcome ijson_get(uint64_t seed, const uint8_t *text, size_t text_length, const uint8_t *pointer, size_t pointer_length,
                         uint8_t *output, size_t output_length, size_t *length);
 
-/* The compact text of the target after a JSON Merge Patch (RFC 7396). Keys can be chosen with which it takes quadratic time, whatever the
- * seed, so limit the size of objects. */
+/* The compact text of the target after a JSON Merge Patch (RFC 7396). */
 ijson_outcome ijson_merge_patch(uint64_t seed, const uint8_t *target, size_t target_length, const uint8_t *patch, size_t patch_length,
                                 uint8_t *output, size_t output_length, size_t *length);
 

@@ -10,7 +10,7 @@
 #include <stdlib.h>
 #include <string.h>
 
-enum { DEPTH = 127, ROOM = 1 << 20, STATED = 64 << 10, UNUSED = 0xa5, OUTPUT = 1 << 16 };
+enum { DEPTH = 127, ROOM = 1 << 20, STATED = 72 << 10, UNUSED = 0xa5, OUTPUT = 1 << 17 };
 
 static const char *const NAMES[] = {"none", "compact", "canonical", "get", "merge_patch", "equal", "hash"};
 enum { FUNCTIONS = sizeof NAMES / sizeof *NAMES };
@@ -83,13 +83,26 @@ static char *large_object(void) {
     return text;
 }
 
+/* Returns an object of more members than ijson_merge_patch looks up by key, up to the value of its last; the caller frees it. */
+static char *wide_opening(void) {
+    char *text = malloc(40 * 10 + 10);
+    assert(text);
+    size_t count = 0;
+    for (int member = 0; member < 40; member++) {
+        count += sprintf(text + count, "%s\"%d\":%d", count ? "," : "{", member, member);
+    }
+    strcpy(text + count, ",\"key\":");
+    return text;
+}
+
 int main(void) {
-    char *large = large_object();
+    char *large = large_object(), *wide = wide_opening();
     char *texts[] = {
         nested("[", "[1.5e300]", ']'),
         nested("{\"\\u0061\":", "{\"b\":0.0000000000000000000000000000000000000000123456789012345678901234567890}", '}'),
         nested("[", large, ']'),
         nested("{\"key\":", large, '}'),
+        nested(wide, large, '}'),
     };
     uint8_t *output = malloc(OUTPUT);
     size_t most[FUNCTIONS] = {0}, status = 0;
@@ -107,6 +120,7 @@ int main(void) {
         status |= bytes > STATED;
     }
     free(large);
+    free(wide);
     free(output);
     return (int)status;
 }

@@ -96,7 +96,7 @@ fn written(room: usize, call: impl Fn(&mut [u8], &mut usize) -> Outcome) -> Resu
 
 /// Returns the text without white space.
 ///
-/// Members keep their order, and numbers their value and whether they have a fraction point.
+/// Members keep their order, and numbers their value and whether they have a decimal point.
 pub fn compact(text: impl AsRef<[u8]>) -> Result<String, Error> {
     let text = text.as_ref();
     written(text.len() + 64, |output, length| {

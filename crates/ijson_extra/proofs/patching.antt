@@ -1,3 +1,2 @@
-pub mod Kept
-pub mod Merged
+pub mod Joined
 pub mod Steps

@@ -1,3 +1,3 @@
 pub mod Walked
 pub mod WordOf
-pub mod Removed
+pub mod Joined

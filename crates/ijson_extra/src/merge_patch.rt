@@ -1,14 +1,30 @@
 //! JSON Merge Patch (RFC 7396): changing a value by a patch, which has the structure of the value, with null for members to remove.
-ghost use Rattle.std.specs.Prelude.{◌≡◌, IfOk, IsFalse};
-ghost use Rattle.ijson_value.specs.Values.{object_tree};
-ghost use Rattle.ijson_value.specs.WellFormed.{pair_trees};
+ghost use Rattle.std.specs.Prelude.{◌≡◌, ◌++◌, ◌+◌, ◌≤◌, [], length, drop, map, get_or, option_map, IfOk, Ok, OnOk};
+ghost use Rattle.std.specs.Borrow.{sem};
+ghost use Rattle.std.specs.Option.{unwrap_or};
+ghost use Rattle.std.specs.Vec.{vec_capacity};
+ghost use Rattle.ijson_table.specs.Store.{keys_of, lookup, put_each};
+ghost use Rattle.ijson_value.specs.AtKey.{shift_out_key};
+ghost use Rattle.ijson_value.specs.LendsAtKey.{LendsPut};
+ghost use Rattle.ijson_value.specs.Tree.{null};
+ghost use Rattle.ijson_value.specs.Values.{null_value, object_tree};
+ghost use Rattle.ijson_value.specs.WellFormed.{tree_of};
 ghost use Rattle.ijson_extra.specs.MergePatch.{merged, members_in};
-ghost use Rattle.ijson_extra.specs.private.Removed.{left_by, removed_by};
+ghost use Rattle.ijson_extra.specs.private.Joined.{after, change_of, joined, old_trees, unchanged, all_changed, shown};
 
-use ijson_value::object::IObject;
+use ijson_string::IString;
+use ijson_table::{FixedTable, PairStore, ReserveError};
+use ijson_value::object::{IObject, IntoIter, RefusedPair};
 use ijson_value::value::IValue;
 use std::alloc::{AllocError, Global};
 use std::mem;
+
+/// The maximum number of members of a patch that are looked up. If many keys collide, so many scans of the target take less time than a
+/// table of all keys.
+const FEW: usize = 32;
+
+/// Keys, each with its change by a patch, if any.
+type Changes<'a> = Vec<(IString, Option<&'a IValue>)>;
 
 /// Returns `target`, changed by `patch` (RFC 7396, section 2).
 ///
@@ -22,35 +38,32 @@ use std::mem;
 ///
 /// # Errors
 ///
-/// Returns `AllocError` if there is no memory for a copy of a part of the patch or for one more entry, or if an object already has 2^56
-/// entries. The target is dropped.
+/// Returns `AllocError` if there is no memory for a copy of a part of the patch, for one more entry or for a table of keys, or if objects
+/// have more than 2^56 entries. The target is dropped.
 ///
 /// # Cost
 ///
-/// Linear in the patch if few keys collide, plus the members of each target object from which it removes any: these are removed in one
-/// pass. It recurses once per level of the patch.
+/// An object of the patch with at most 32 members takes a lookup for each, and a shift of the later entries for each removal. If many keys
+/// collide, a lookup scans the target's object once. For an object with more members, two tables are built of the keys of both objects, as
+/// by `IObject::from_pairs`: in linear time if few keys collide, and otherwise n log n. It recurses once per level of the patch.
+#[cycle(merge)]
 pub fn merge_patch(alloc: Global, target: IValue, patch: &IValue) -> Result<IValue, AllocError>
     ensures { IfOk result (λ value. value.tree ≡ merged target.tree patch.now.tree) }
 {
     let Some(changes) = patch.as_object() else {
         return patch.clone();
     };
-    let mut object = without_removed(alloc, object_of(alloc, target), changes)?;
-    for (key, change) in changes.iter() {
-        if change.is_null() {
-            continue;
-        }
-        let Ok(place) = object.index_or_insert(key.clone()?) else {
-            return Err(AllocError);
-        };
-        let value = merge_patch(alloc, place.take(), change)?;
-        // Not `*place = value`, which the proof splits by each kind of the old value.
-        drop(mem::replace(place, value));
+    // The functions that do not recurse are not inlined, so that a level takes less of the stack.
+    let object = object_of(alloc, target);
+    if changes.len() <= FEW {
+        changed_in_turn(alloc, object, changes)
+    } else {
+        changed_at_once(alloc, object, changes)
     }
-    Ok(IValue::from(object))
 }
 
 /// Returns the object of a value, or an empty one for any other value.
+#[inline(never)]
 fn object_of(alloc: Global, value: IValue) -> IObject
     ensures { members_in (object_tree result.pairs) ≡ members_in value.tree }
 {
@@ -60,39 +73,152 @@ fn object_of(alloc: Global, value: IValue) -> IObject
     }
 }
 
-/// Returns an object without the entries that the members of a patch remove.
-fn without_removed(alloc: Global, object: IObject, changes: &IObject) -> Result<IObject, AllocError>
-    ensures { IfOk result (λ left. left.pairs ≡ left_by (pair_trees changes.now.pairs) object.pairs) }
+/// Returns an object changed by a patch, by a lookup of each of its members.
+#[cycle(merge)]
+fn changed_in_turn(
+    alloc: Global,
+    mut object: IObject,
+    changes: &IObject,
+) -> Result<IValue, AllocError>
+    ensures { IfOk result (λ value. value.tree ≡ merged (object_tree object.pairs) (object_tree changes.now.pairs)) }
 {
-    if !removes_any(changes, &object) {
-        return Ok(object);
+    for (key, change) in changes.iter() {
+        if change.is_null() {
+            remove(&mut object, key);
+            continue;
+        }
+        let Ok(place) = place_of(&mut object, key.clone()?) else {
+            return Err(AllocError);
+        };
+        let value = merge_patch(alloc, place.take(), change)?;
+        // Not `*place = value`, which the proof splits by each kind of the old value.
+        drop(mem::replace(place, value));
     }
-    let mut pairs = object.into_pairs();
-    pairs.retain(|pair| !removes(changes, pair.0.as_str()));
-    match IObject::from_pairs(alloc, pairs) {
-        Ok(left) => Ok(left),
+    Ok(IValue::from(object))
+}
+
+/// Removes the entry of a key, if it exists. The order of the others stays.
+#[inline(never)]
+fn remove(object: &mut IObject, key: &IString)
+    ensures { object.new.pairs ≡ shift_out_key key.now object.old.pairs }
+{
+    drop(object.shift_remove(key));
+}
+
+/// Returns a mutable reference to the value of a key, appending a missing key with null.
+#[inline(never)]
+fn place_of(object: &mut IObject, key: IString) -> Result<&mut IValue, RefusedPair>
+    ensures* writes_back { sem 𝓛 (LendsPut object.entry key result) }
+    ensures value { IfOk result (λ value. value.now ≡ unwrap_or (lookup key object.old.pairs) null_value) }
+{
+    object.index_or_insert(key)
+}
+
+/// Returns an object changed by a patch, by one table of the keys of both.
+#[cycle(merge)]
+fn changed_at_once(alloc: Global, object: IObject, changes: &IObject) -> Result<IValue, AllocError>
+    ensures { IfOk result (λ value. value.tree ≡ merged (object_tree object.pairs) (object_tree changes.now.pairs)) }
+{
+    let keys = joined_keys(alloc, &object, changes)?;
+    let mut pairs = Vec::with_capacity(alloc, keys.len())?;
+    let mut olds = object.into_iter();
+    for (key, change) in keys {
+        let old = next_value(&mut olds);
+        if let Some(value) = changed_value(alloc, old, change)? {
+            pairs.push_reserved((key, value));
+        }
+    }
+    value_of_pairs(alloc, pairs)
+}
+
+/// Returns an object of these entries, as a value.
+#[inline(never)]
+fn value_of_pairs(alloc: Global, pairs: Vec<(IString, IValue)>) -> Result<IValue, AllocError>
+    ensures { IfOk result (λ value. value.tree ≡ object_tree (put_each [] pairs.items)) }
+{
+    let object = within_memory(IObject::from_pairs(alloc, pairs))?;
+    Ok(IValue::from(object))
+}
+
+/// Returns the value of the next entry, or null after the last.
+#[inline(never)]
+fn next_value(olds: &mut IntoIter) -> IValue
+    ensures value { result.tree ≡ get_or (old_trees olds.old) 0 null }
+    ensures rest { olds.new ≡ drop 1 olds.old }
+{
+    match olds.next() {
+        Some((key, value)) => {
+            drop(key);
+            value
+        }
+        None => IValue::default(),
+    }
+}
+
+/// Returns what a change makes of the value of a member: none if it removes the member.
+#[cycle(merge)]
+fn changed_value(
+    alloc: Global,
+    old: IValue,
+    change: Option<&IValue>,
+) -> Result<Option<IValue>, AllocError>
+    ensures { IfOk result (λ value. option_map tree_of value ≡ after old.tree (change_of change.entry)) }
+{
+    match change {
+        None => Ok(Some(old)),
+        Some(change) if change.is_null() => {
+            drop(old);
+            Ok(None)
+        }
+        Some(change) => Ok(Some(merge_patch(alloc, old, change)?)),
+    }
+}
+
+/// Returns the keys of an object and then the new ones of a patch, each with its change.
+#[inline(never)]
+fn joined_keys<'a>(
+    alloc: Global,
+    object: &IObject,
+    changes: &'a IObject,
+) -> Result<Changes<'a>, AllocError>
+    ensures { IfOk result (λ keys. map shown keys.items ≡ joined object.now.pairs changes.now.pairs) }
+{
+    let mut keys = Vec::with_capacity(alloc, object.capacity() + changes.capacity())?;
+    push_unchanged(&mut keys, object)?;
+    push_changed(&mut keys, changes)?;
+    let table = within_memory(FixedTable::from_pairs(alloc, keys))?;
+    Ok(table.into_pairs())
+}
+
+/// Returns what was made, or an error that does not tell a lack of memory from too many entries.
+fn within_memory<T>(made: Result<T, ReserveError>) -> Result<T, AllocError>
+    ensures { IfOk result (λ value. made ≡ Ok value) }
+{
+    match made {
+        Ok(value) => Ok(value),
         Err(_) => Err(AllocError),
     }
 }
 
-/// Returns whether the members of a patch remove an entry of an object.
-fn removes_any(changes: &IObject, object: &IObject) -> bool
-    ensures { IsFalse result → left_by (pair_trees changes.now.pairs) object.now.pairs ≡ object.now.pairs }
+/// Appends the keys of an object, without a change.
+fn push_unchanged(keys: &mut Changes, object: &IObject) -> Result<(), AllocError>
+    requires { length keys.old.items + length object.now.pairs ≤ vec_capacity keys.old }
+    ensures keys { OnOk result (map shown keys.new.items ≡ map shown keys.old.items ++ unchanged (keys_of object.now.pairs)) }
+    ensures room { vec_capacity keys.new ≡ vec_capacity keys.old }
 {
-    for (key, change) in changes.iter() {
-        if change.is_null() && object.contains_key(key) {
-            return true;
-        }
+    for key in object.keys() {
+        keys.push_reserved((key.clone()?, None));
     }
-    false
+    Ok(())
 }
 
-/// Returns whether the members of a patch have null for a key.
-fn removes(changes: &IObject, key: &str) -> bool
-    ensures { result ≡ removed_by (pair_trees changes.now.pairs) key.now }
+/// Appends the keys of a patch, each with its change.
+fn push_changed<'a>(keys: &mut Changes<'a>, changes: &'a IObject) -> Result<(), AllocError>
+    requires { length keys.old.items + length changes.now.pairs ≤ vec_capacity keys.old }
+    ensures keys { OnOk result (map shown keys.new.items ≡ map shown keys.old.items ++ all_changed changes.now.pairs) }
 {
-    match changes.get(key) {
-        Some(change) => change.is_null(),
-        None => false,
+    for (key, change) in changes.iter() {
+        keys.push_reserved((key.clone()?, Some(change)));
     }
+    Ok(())
 }

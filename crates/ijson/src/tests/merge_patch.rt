@@ -5,10 +5,15 @@ use crate::tests::support::{is_written, parsed};
 use std::alloc::{AllocError, Global};
 use std::process::Abort;
 
-/// Targets, patches and the results: three that show the order, and the table.
+/// Targets, patches and the results: four that show the order, one of them with a patch of many members, and the table.
 #[rattlefmt::skip]
-static MERGED: [(&str, &str, &str); 18] = [
+static MERGED: [(&str, &str, &str); 19] = [
     (r#"{"a":1,"b":2,"c":3,"d":4}"#, r#"{"e":5,"b":null,"d":{"x":null,"y":6},"f":null,"a":null}"#, r#"{"c":3,"d":{"y":6},"e":5}"#),
+    (r#"{"z":0,"b":{"c":1,"d":2},"a":1,"7":{},"y":3}"#, r#"{"n":{"p":null,"q":1},"b":{"e":7,"c":null},"a":null,"z":5,
+    "0":null,"1":null,"2":null,"3":null,"4":null,"5":null,"6":null,"7":null,"8":null,"9":null,"10":null,
+    "11":null,"12":null,"13":null,"14":null,"15":null,"16":null,"17":null,"18":null,"19":null,"20":null,
+    "21":null,"22":null,"23":null,"24":null,"25":null,"26":null,"27":null,"28":null,"29":null,"m":[null]}"#,
+    r#"{"z":5,"b":{"d":2,"e":7},"y":3,"n":{"q":1},"m":[null]}"#),
     (r#"{"a":1,"b":2,"c":3}"#, r#"{"a":null}"#, r#"{"b":2,"c":3}"#),
     (r#"{"a":1,"b":2}"#, r#"{"a":3}"#, r#"{"a":3,"b":2}"#), (r#"{"a":"b"}"#, r#"{"a":"c"}"#, r#"{"a":"c"}"#),
     (r#"{"a":"b"}"#, r#"{"b":"c"}"#, r#"{"a":"b","b":"c"}"#), (r#"{"a":"b"}"#, r#"{"a":null}"#, "{}"),
