@@ -1,5 +1,6 @@
 pub mod scanning
 pub mod grammar
 pub mod reading
+pub mod errors
 pub mod writing
 pub mod devices

@@ -9,6 +9,10 @@ pub mod KeyText
 pub mod OneTree
 pub mod PrintedIsAccepted
 pub mod Refuses
+pub mod Begins
+pub mod Inside
+pub mod ErrorOf
+pub mod OneError
 pub mod ReadsAs
 pub mod AddsOnlyRead
 pub mod AreShared

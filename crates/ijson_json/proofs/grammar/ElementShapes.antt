@@ -37,7 +37,7 @@ members_shape = record {
 }
 
 -- white space around a key, `:` and a value
-spaced_pair : (k : List ℕ) (t : Tree) (text : List ℕ)
+pub spaced_pair : (k : List ℕ) (t : Tree) (text : List ℕ)
     → Split (λ key. Spaced (λ string. IsString k string) key) 58 (λ value. Spaced (λ value. IsValue t value) value) text
     → Spaced (λ pair. Pair (k, t) pair) text
 spaced_pair k t text (first, second, (b, s, g, sb, h, sg, e), (g', v, a, sg', w, sa, f), i) = (

@@ -20,7 +20,7 @@ body-append {b} {t} (one_more {written} {meant} {body} {text} d r) h =
     rw (append_assoc written body b, append_assoc meant text t) (one_more d (body-append r h))
 
 -- a body and a character after it are one
-body-push : {a s w m : List ℕ} → StringBody a s → Character w m → StringBody (a ++ w) (s ++ m)
+pub body-push : {a s w m : List ℕ} → StringBody a s → Character w m → StringBody (a ++ w) (s ++ m)
 body-push {w} {m} h c = body-append h (rw (append-nil w, append-nil m) at (one_more c empty))
 
 -- the content s was read, and the rest of it begins here

@@ -52,7 +52,7 @@ no_value text first more e apart none t x stops g = absurd
     (let k : rank t ≡ 6 = apart_kind first (rank t) apart (kind_at t first more text x e g) (omega arith) in omega (arith, k))
 
 -- every leading value is a number beyond the limit, and some beginning is
-out_of_range : (text : List ℕ) (first : ℕ) (more : List ℕ) → text ≡ first ∷ more → PastLimitAt text → IsOutOfRange text
+pub out_of_range : (text : List ℕ) (first : ℕ) (more : List ℕ) → text ≡ first ∷ more → PastLimitAt text → IsOutOfRange text
 out_of_range text first more e p = record {
   each = only;
   beginning = p.beginning.front;

@@ -1,0 +1,88 @@
+-- Bytes inside containers begin a text: what is behind them and the brackets complete it.
+use Rattle.std.proofs.Common.{ℕ, List, [], ◌∷◌, ◌++◌, refl, sym, ap, subst, append_assoc, append-nil, inl, inr}
+use Rattle.std.specs.Prelude.{◌⊎◌}
+use Rattle.ijson_value.specs.Tree.{Tree, null, string}
+use Rattle.ijson_json.specs.Strings.{unescaped}
+use Rattle.ijson_json.specs.Grammar.{IsSpace, Spaced, IsString, IsValue, null_text}
+use Rattle.ijson_json.specs.Inside.{EachWithComma, no_comma, comma_after, Inside, here, in_array, in_object, IsOpenString, IsOpenKey, IsCharacterPlace}
+use Rattle.ijson_json.proofs.grammar.CommaLists.{IsList, Shape}
+use Rattle.ijson_json.proofs.grammar.ElementShapes.{items_shape, members_shape, spaced_pair}
+use Rattle.ijson_json.proofs.grammar.SpelledTrees.{spaced}
+use Rattle.ijson_json.proofs.reading.Elements.{Listing}
+use Rattle.ijson_json.proofs.reading.ArraysAndObjects.{arrays, objects}
+use Rattle.ijson_json.proofs.reading.StringContent.{body-push}
+use Rattle.ijson_json.proofs.errors.Places.{member_pair}
+
+-- some bytes behind the text make it a value with white space around it
+abbrev pub IsCompleted : List ℕ → Type 0
+IsCompleted text = (closing : List ℕ) × (t : Tree) × Spaced (λ value. IsValue t value) (text ++ closing)
+
+module _ (E : Type 0) (S : Shape E) where
+  -- elements with their commas, and one more
+  each_list : {P : List ℕ → Type 0} {pre : List ℕ} (e : E) (text : List ℕ) → EachWithComma P pre
+      → ((first : List ℕ) → P first → (f : E) × Spaced (λ inside. S.Is f inside) first) → Spaced (λ inside. S.Is e inside) text
+      → (f : E) × (more : List E) × IsList S.Is (f ∷ more) (pre ++ text)
+  each_list e text no_comma to s = (e, [], s)
+  each_list e text (comma_after {first} {more} p each) to s =
+      let f = to first p in
+      let r = each_list e text each to s in
+      (f.0, r.0 ∷ r.1, (first, more ++ text, f.1, r.2, append_assoc first (44 ∷ more) text))
+
+  -- the container of these
+  each_wrapped : {P : List ℕ → Type 0} {pre : List ℕ} (L : Listing E S) (gap : List ℕ) (e : E) (text : List ℕ) → IsSpace gap
+      → EachWithComma P pre → ((first : List ℕ) → P first → (f : E) × Spaced (λ inside. S.Is f inside) first)
+      → Spaced (λ inside. S.Is e inside) text
+      → (t : Tree) × Spaced (λ value. IsValue t value) (gap ++ L.opening ∷ ((pre ++ text) ++ S.closing ∷ []))
+  each_wrapped {pre = pre} L gap e text sg each to s =
+      let r = each_list e text each to s in
+      let list : List ℕ = L.opening ∷ ((pre ++ text) ++ S.closing ∷ []) in (
+        L.wrap (r.0 ∷ r.1),
+        (gap, list, [], sg, L.builds (r.0 ∷ r.1) (pre ++ text) r.2, tt, ap (λ (l : List ℕ). gap ++ l) (sym (append-nil list))),
+      )
+
+-- what completes the innermost text and a bracket for each container complete the whole
+pub completed : {P : List ℕ → Type 0} {opened : ℕ} {before : List ℕ} → Inside P opened before → (rest : List ℕ)
+    → ((last : List ℕ) → P last → IsCompleted (last ++ rest)) → IsCompleted (before ++ rest)
+completed (here {text} p) rest at = at text p
+completed (in_array gap {items} {inside} sg each i) rest at =
+    let (closing, t, s) = completed i rest at in
+    let w = each_wrapped Tree items_shape arrays gap t ((inside ++ rest) ++ closing) sg each (λ first p. p) s in
+    (closing ++ 93 ∷ [], w.0, subst (λ (l : List ℕ). Spaced (λ value. IsValue w.0 value) l) (simp append_assoc) w.1)
+completed (in_object gap key {members} {inside} sg each k i) rest at =
+    let (closing, t, s) = completed i rest at in
+    let text : List ℕ = key ++ 58 ∷ ((inside ++ rest) ++ closing) in
+    let member = spaced_pair k.0 t text (key, (inside ++ rest) ++ closing, k.1, s, refl) in
+    let w = each_wrapped (List ℕ × Tree) members_shape objects gap (k.0, t) text sg each member_pair member in
+    (closing ++ 125 ∷ [], w.0, subst (λ (l : List ℕ). Spaced (λ value. IsValue w.0 value) l) (simp append_assoc) w.1)
+
+-- a quote closes an open string after one more `~`
+string_closed : (text : List ℕ) → IsOpenString text → (k : List ℕ) × Spaced (λ string. IsString k string) ((text ++ 126 ∷ []) ++ 34 ∷ [])
+string_closed text (gap, body, s, sg, h, e) = (
+  s ++ 126 ∷ [],
+  (
+    gap,
+    34 ∷ ((body ++ 126 ∷ []) ++ 34 ∷ []),
+    [],
+    sg,
+    (body ++ 126 ∷ [], body-push h (unescaped refl), refl),
+    tt,
+    rw e (simp (append_assoc, append-nil)),
+  ),
+)
+
+open_completed : (text : List ℕ) → IsOpenString text ⊎ IsOpenKey text → IsCompleted (text ++ 126 ∷ [])
+open_completed text (inl o) = let c = string_closed text o in (34 ∷ [], string c.0, c.1)
+open_completed text (inr (gap, members, key, sg, each, o, e)) =
+    let c = string_closed key o in
+    let string : List ℕ = (key ++ 126 ∷ []) ++ 34 ∷ [] in
+    let member = spaced_pair c.0 null (string ++ 58 ∷ null_text)
+    (string, null_text, c.1, spaced (λ value. IsValue null value) null_text refl, refl) in
+    let w = each_wrapped (List ℕ × Tree) members_shape objects gap (c.0, null) (string ++ 58 ∷ null_text) sg each member_pair member in (
+      34 ∷ 58 ∷ (null_text ++ 125 ∷ []),
+      w.0,
+      subst (λ (l : List ℕ). Spaced (λ value. IsValue w.0 value) l) (rw e (simp append_assoc)) w.1,
+    )
+
+-- `~` may follow where a character of a string may begin
+pub character_completed : (before : List ℕ) → IsCharacterPlace before → IsCompleted (before ++ 126 ∷ [])
+character_completed before (opened, i) = completed i (126 ∷ []) open_completed
