@@ -15,7 +15,7 @@ use Rattle.ijson_json.proofs.scanning.Prefixes.{Run, all-append, not_both, run_s
 use Rattle.ijson_json.proofs.grammar.ElementShapes.{members_shape, spaced_pair_back}
 use Rattle.ijson_json.proofs.grammar.FirstBytes.{kind_at, value-past_space}
 use Rattle.ijson_json.proofs.grammar.OneTree.{enclosed_with}
-use Rattle.ijson_json.proofs.grammar.StringBodies.{character_same, not_quote}
+use Rattle.ijson_json.proofs.reading.StringContent.{content_behind}
 use Rattle.ijson_json.proofs.reading.ArraysAndObjects.{objects}
 use Rattle.ijson_json.proofs.errors.ListParts.{Opening, in_list}
 use Rattle.ijson_json.proofs.errors.Overlaps.{IsLonger, overlap, run_behind}
@@ -26,19 +26,10 @@ use Rattle.ijson_json.proofs.errors.Places.{member_pair, descends}
 abbrev pub HasContent : List ℕ → Type 0
 HasContent text = (s rest : List ℕ) × ContentAt text s rest
 
--- after some of its characters, the others
-content_behind : {body s i t : List ℕ} (rest x : List ℕ) → StringBody body s → StringBody i t → body ++ rest ≡ i ++ 34 ∷ x → HasContent rest
-content_behind {i = i} {t = t} rest x empty h e = (t, x, (i, h, e))
-content_behind rest x (one_more {written} {body = body} d r) empty e =
-    absurd (not_quote (body ++ rest) x d (sym (append_assoc written body rest) ∙ e))
-content_behind rest x (one_more {written} {body = body} d r) (one_more {written = other} {body = more} c h) e =
-    let same = character_same (body ++ rest) (more ++ 34 ∷ x) d c (sym (append_assoc written body rest) ∙ e ∙ append_assoc other more (34 ∷ x)) in
-    content_behind rest x r h same.1.1
-
 -- a string that begins with a quote and these characters
 string_goes : (k v z body s rest : List ℕ) → IsString k v → StringBody body s → v ++ z ≡ 34 ∷ (body ++ rest) → HasContent rest
 string_goes k v z body s rest (i, h, f) b e =
-    content_behind rest z b h (tails 34 34 _ _ (sym e ∙ enclosed_with 34 34 v i z f))
+    let c = content_behind rest z b h (tails 34 34 _ _ (sym e ∙ enclosed_with 34 34 v i z f)) in (c.0, z, c.1)
 
 -- and a value that does is such a string
 value_goes : (t : Tree) (v z body s rest : List ℕ) → IsValue t v → StringBody body s → v ++ z ≡ 34 ∷ (body ++ rest) → HasContent rest

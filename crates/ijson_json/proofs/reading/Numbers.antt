@@ -1,5 +1,5 @@
 -- The leading number of a text.
-use Rattle.std.proofs.Common.{◌≡◌, ℕ, ◌+◌, ◌<◌, ◌≤◌, Bool, true, false, List, [], ◌∷◌, ◌++◌, get_or, length, take, drop, sym, ap}
+use Rattle.std.proofs.Common.{◌≡◌, ℕ, ◌<◌, ◌≤◌, true, false, List, [], ◌∷◌, ◌++◌, get_or, length, take, drop, sym, ap}
 use Rattle.std.proofs.Common.{subst, ◌∙◌, arith, inl, inr}
 use Rattle.std.specs.Prelude.{IsTrue}
 use Rattle.std.specs.Str.{IsUtf8, IsCharBoundary}
@@ -17,6 +17,7 @@ use Rattle.ijson_number.proofs.parsing.Denotes.{spells_one}
 use Rattle.ijson_number.proofs.parsing.NumberFronts.{front_within}
 use Rattle.ijson_number.proofs.parsing.SpelledBytes.{spells_bytes}
 use Rattle.ijson_json.specs.private.Reading.{Stops, NumberAt, NoNumber, PastLimitAt}
+use Rattle.ijson_json.specs.private.Explains.{NumberStops}
 use Rattle.ijson_json.proofs.scanning.CharBoundaries.{behind_ascii}
 
 -- a byte of a number is ASCII
@@ -69,13 +70,11 @@ number_taken text count f n rest a =
     let left : drop count text ≡ rest = ap (λ k. drop k text) e ∙ ap (drop (length front)) a.found.is ∙ drop-append_seam front rest in
     (subst (λ b. Spells b n) (sym taken) a.found.holds, left)
 
--- if the front spells no number, the text begins with none
-pub no_number : (text : List ℕ) (count : ℕ) → IsNumberFront text count → ((n : Decimal) → Spells (take count text) n → ⊥) → NoNumber text
-no_number text count f none n rest a = none n (number_taken text count f n rest a).0
-
--- nor if a byte of a number follows it
-pub goes_on : (text : List ℕ) (count : ℕ) → IsNumberFront text count → (Stops (drop count text) → ⊥) → NoNumber text
-goes_on text count f more n rest a = more (subst Stops (sym (number_taken text count f n rest a).1) a.stops)
+-- if the front spells no number, or a byte of a number follows it, the text begins with none
+pub no_number_at : (text : List ℕ) (left : ℕ) → NumberStops text left → NoNumber text
+no_number_at text left s n rest a =
+    let taken = number_taken text s.count s.front n rest a in
+    elim s.stops [ inl none ↦ none n taken.0 | inr more ↦ more (subst Stops (sym taken.1) a.stops) ]
 
 -- if the front is a number beyond the limit, each leading number is
 pub past_limit : (text : List ℕ) (count : ℕ) → IsNumberFront text count → IsPastLimit (take count text) → PastLimitAt text

@@ -1,16 +1,16 @@
 -- The content of a string, run by run and escape by escape.
-use Rattle.std.proofs.Common.{◌≡◌, ℕ, ◌≤◌, true, false, List, [], ◌∷◌, ◌++◌, length, refl, sym, ap, ◌∙◌, append_assoc, arith, eqb}
+use Rattle.std.proofs.Common.{◌≡◌, ℕ, ◌≤◌, true, false, List, [], ◌∷◌, ◌++◌, length, refl, sym, ap, ◌∙◌, append_assoc, arith, eqb, inl, inr}
 use Rattle.std.proofs.lemmas.Bool.{eqb-true}
 use Rattle.std.specs.Prelude.{◌≢◌}
 use Rattle.std.proofs.lemmas.List.{append-nil, length-append}
 use Rattle.ijson_json.specs.Strings.{is_unescaped, Character, unescaped, StringBody, empty, one_more}
 use Rattle.ijson_json.specs.Grammar.{IsString}
 use Rattle.ijson_json.specs.private.Reading.{Past, Front}
-use Rattle.ijson_json.specs.private.Explains.{StringFault}
-use Rattle.ijson_json.specs.private.StringReading.{CharacterAt, NoCharacter, NoEscape, ContentAt, NoContent, ContentFault}
+use Rattle.ijson_json.specs.private.Explains.{StringFault, StringStops}
+use Rattle.ijson_json.specs.private.StringReading.{CharacterAt, NoCharacter, NoEscape, ContentAt, ContentStops, ContentFault}
 use Rattle.ijson_json.specs.declared.fault.Fault.{Fault}
 use Rattle.ijson_json.specs.declared.fault.Fault.TheVariants as faults
-use Rattle.ijson_json.proofs.scanning.Prefixes.{Run, not_both, heads, tails, heads_apart}
+use Rattle.ijson_json.proofs.scanning.Prefixes.{Run, not_both, heads, tails, heads_apart, past_byte}
 use Rattle.ijson_json.proofs.grammar.StringBodies.{character_same, not_quote}
 
 -- two concatenated bodies are one
@@ -22,6 +22,19 @@ body-append {b} {t} (one_more {written} {meant} {body} {text} d r) h =
 -- a body and a character after it are one
 pub body-push : {a s w m : List ℕ} → StringBody a s → Character w m → StringBody (a ++ w) (s ++ m)
 body-push {w} {m} h c = body-append h (rw (append-nil w, append-nil m) at (one_more c empty))
+
+-- the text begins with the rest of a string, up to its quote and the text x
+abbrev pub GoesOn : List ℕ → List ℕ → Type 0
+GoesOn text x = (s : List ℕ) × ContentAt text s x
+
+-- after some of the characters of a string, the others
+pub content_behind : {body s i t : List ℕ} (rest x : List ℕ) → StringBody body s → StringBody i t → body ++ rest ≡ i ++ 34 ∷ x → GoesOn rest x
+content_behind {i = i} {t = t} rest x empty h e = (t, (i, h, e))
+content_behind rest x (one_more {written} {body = body} d r) empty e =
+    absurd (not_quote (body ++ rest) x d (sym (append_assoc written body rest) ∙ e))
+content_behind rest x (one_more {written} {body = body} d r) (one_more {written = other} {body = more} c h) e =
+    let same = character_same (body ++ rest) (more ++ 34 ∷ x) d c (sym (append_assoc written body rest) ∙ e ∙ append_assoc other more (34 ∷ x)) in
+    content_behind rest x r h same.1.1
 
 -- the content s was read, and the rest of it begins here
 pub record Reached (text s rest : List ℕ) : Type 0 where
@@ -76,27 +89,36 @@ module _ {text s rest : List ℕ} (r : Reached text s rest) where
   pub reached_quote : {behind : List ℕ} → rest ≡ 34 ∷ behind → ContentAt text s behind
   reached_quote e = (r.written, r.body, r.is ∙ ap (λ (l : List ℕ). r.written ++ l) e)
 
-  -- if neither a character nor a quote follows, the text has no content
-  pub reached_stuck : ((behind : List ℕ) → rest ≢ 34 ∷ behind) → NoCharacter rest → NoContent text
-  reached_stuck q n t x h = let o = r.only t x h in go o.1.1 o.1.2
-    where
-      go : {b t' : List ℕ} → StringBody b t' → rest ≡ b ++ 34 ∷ x → ⊥
-      go empty g = q x g
-      go (one_more {written} {meant} {body} {text} d h) g = n meant (body ++ 34 ∷ x) (written, d, g ∙ append_assoc written body (34 ∷ x))
-
-  -- the rest is no longer than the text
-  pub reached_shorter : length rest ≤ length text
-  reached_shorter = omega (arith, ap length r.is, length-append r.written rest)
-
   -- content of the rest is content of the whole
   pub reached_content : {t behind : List ℕ} → ContentAt rest t behind → ContentAt text (s ++ t) behind
   reached_content {t} {behind} (body, h, e) =
       (r.written ++ body, body-append r.body h, r.is ∙ rw e (sym (append_assoc r.written body (34 ∷ behind))))
 
+  -- the content stops here
+  pub reached_stop : ((behind : List ℕ) → rest ≢ 34 ∷ behind) → NoCharacter rest → ContentStops text (length rest)
+  reached_stop unclosed none = record {
+    body = r.written;
+    meant = s;
+    rest = rest;
+    is_body = r.body;
+    is = r.is;
+    left_is = refl;
+    unclosed = unclosed;
+    no_character = none;
+  }
+
   -- a fault in the rest is one of the whole
   pub reached_fault : (fault : Fault) → ContentFault rest fault → ContentFault text fault
-  reached_fault (faults.Syntax left) h =
-      (omega (arith, h.0, reached_shorter), λ t x found. let o = r.only t x found in h.1 o.0 x o.1)
+  reached_fault (faults.Syntax left) h = record {
+    body = r.written ++ h.body;
+    meant = s ++ h.meant;
+    rest = h.rest;
+    is_body = body-append r.body h.is_body;
+    is = r.is ∙ rw h.is (sym (append_assoc r.written h.body h.rest));
+    left_is = h.left_is;
+    unclosed = h.unclosed;
+    no_character = h.no_character;
+  }
   reached_fault faults.Memory h = tt
   reached_fault fault h = absurd h
 
@@ -132,9 +154,25 @@ string_found text inside s t rest e (body, h, f) same =
 
 -- a fault in the content is one of the string
 pub no_string : (text inside : List ℕ) → text ≡ 34 ∷ inside → (fault : Fault) → ContentFault inside fault → StringFault text fault
-no_string text inside e (faults.Syntax left) h = (
-  omega (arith, h.0, ap length e),
-  λ s rest f. h.1 s rest (f.holds.0, f.holds.1, tails _ _ _ _ (sym e ∙ string_first text s rest f)),
-)
+no_string text inside e (faults.Syntax left) h = inr (inside, e, h)
 no_string text inside e faults.Memory h = tt
 no_string text inside e fault h = absurd h
+
+-- where the content stops is in the text
+pub string_left : (text : List ℕ) (left : ℕ) → StringStops text left → left ≤ length text
+string_left text left (inl (e, p)) = omega (arith, e)
+string_left text left (inr (inside, e, c)) = omega (arith, c.left_is, ap length e, ap length c.is, length-append c.body c.rest)
+
+-- and then there is no string
+pub no_string_at : (text : List ℕ) (left : ℕ) → StringStops text left → (s rest : List ℕ) → Front (λ front. IsString s front) text rest → ⊥
+no_string_at text left (inl (e, p)) s rest f = past_byte 34 text _ p (string_first text s rest f)
+no_string_at text left (inr (inside, e, c)) s rest f = go c.is_body f.holds.1
+    (sym c.is ∙ tails 34 34 _ _ (sym e ∙ string_first text s rest f))
+  where
+    behind : {i t : List ℕ} → StringBody i t → c.rest ≡ i ++ 34 ∷ rest → ⊥
+    behind empty g = c.unclosed rest g
+    behind (one_more {written} {meant} {body} d h) g =
+        c.no_character meant (body ++ 34 ∷ rest) (written, d, g ∙ append_assoc written body (34 ∷ rest))
+
+    go : {body t i u : List ℕ} → StringBody body t → StringBody i u → body ++ c.rest ≡ i ++ 34 ∷ rest → ⊥
+    go b h g = let (u, (i, is, same)) = content_behind c.rest rest b h g in behind is same

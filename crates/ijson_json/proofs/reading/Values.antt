@@ -20,6 +20,8 @@ use Rattle.ijson_json.specs.Limits.{max_depth}
 use Rattle.ijson_json.specs.declared.read.scratch.Scratch.{Scratch}
 use Rattle.ijson_json.proofs.grammar.FirstBytes.{kind, kind_at, value_first, rank-le}
 use Rattle.ijson_json.proofs.reading.Members.{no_key}
+use Rattle.ijson_json.proofs.reading.Numbers.{no_number_at, past_limit}
+use Rattle.ijson_json.proofs.reading.StringContent.{string_left, no_string_at}
 
 -- the first byte of a text
 pub begins : (b : ℕ) (text : List ℕ) (first : ℕ) (more : List ℕ) → text ≡ first ∷ more → first ≡ b → text ≡ b ∷ more
@@ -73,8 +75,10 @@ out_of_range text first more e p = record {
 -- if the first byte begins no other kind of value, the fault is that of the number
 pub other_fault : (opened : ℕ) (text : List ℕ) (first : ℕ) (more : List ℕ) (fault : Fault) → text ≡ first ∷ more
     → IsApart first → NumberFault text fault → Explains opened text fault
-other_fault opened text first more (faults.Syntax left) e apart h = (h.0, no_value text first more e apart h.1)
-other_fault opened text first more (faults.NumberRange left) e apart h = (h.0, out_of_range text first more e h.1)
+other_fault opened text first more (faults.Syntax left) e apart h =
+    (omega (arith, h.left_is), no_value text first more e apart (no_number_at text left h))
+other_fault opened text first more (faults.NumberRange left) e apart (is, (count, front, past)) =
+    (omega (arith, is), out_of_range text first more e (past_limit text count front past))
 other_fault opened text first more faults.Memory e apart h = tt
 other_fault opened text first more fault e apart h = absurd h
 
@@ -87,13 +91,13 @@ string_alone text more e n t x stops g = absurd (let k : 3 ≡ rank t = kind_at 
 -- a fault in a string is one of the value
 pub string_fault : (opened : ℕ) (text more : List ℕ) (fault : Fault) → text ≡ 34 ∷ more → StringFault text fault
     → Explains opened text fault
-string_fault opened text more (faults.Syntax left) e h = (h.0, string_alone text more e h.1)
+string_fault opened text more (faults.Syntax left) e h = (string_left text left h, string_alone text more e (no_string_at text left h))
 string_fault opened text more faults.Memory e h = tt
 string_fault opened text more fault e h = absurd h
 
 -- a fault in a key is one of the member
 pub key_fault : (opened : ℕ) (text : List ℕ) (fault : Fault) → StringFault text fault → ExplainsMember opened text fault
-key_fault opened text (faults.Syntax left) h = (h.0, no_key text h.1)
+key_fault opened text (faults.Syntax left) h = (string_left text left h, no_key text (no_string_at text left h))
 key_fault opened text faults.Memory h = tt
 key_fault opened text fault h = absurd h
 

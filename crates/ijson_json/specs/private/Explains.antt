@@ -1,10 +1,15 @@
 -- The meaning of the faults of the reader's private functions for the text.
-use Rattle.std.specs.Prelude.{◌≡◌, ◌≢◌, ℕ, ◌+◌, ◌-◌, ◌<◌, ◌≤◌, false, List, ◌++◌, ⊤, length, Result, Ok, Err}
+use Rattle.std.specs.Prelude.{◌≡◌, ◌≢◌, ◌==◌, ◌⊎◌, ℕ, ◌+◌, ◌-◌, ◌<◌, ◌≤◌, false, List, ◌∷◌, ◌++◌, ⊤, length, take, drop, Result, Ok, Err}
+use Rattle.ijson_number.specs.Decimal.{Decimal}
+use Rattle.ijson_number.specs.Grammar.{Spells}
+use Rattle.ijson_number.specs.NumberFront.{IsNumberFront, IsUnread}
+use Rattle.ijson_number.specs.declared.number.ReadNumberError.TheVariants.{OutOfRange}
 use Rattle.ijson_value.specs.Tree.{Tree, depth}
 use Rattle.ijson_value.specs.WellFormed.{WellFormed}
 use Rattle.ijson_json.specs.Ranged.{is_ranged}
-use Rattle.ijson_json.specs.Grammar.{Accepted, IsString, IsValue}
-use Rattle.ijson_json.specs.private.Reading.{PastLimitAt, NoNumber, Front, Pair, NoneAt, Beyond}
+use Rattle.ijson_json.specs.Grammar.{Accepted, IsValue}
+use Rattle.ijson_json.specs.private.Reading.{Past, Stops, Pair, NoneAt, Beyond}
+use Rattle.ijson_json.specs.private.StringReading.{ContentStops}
 use Rattle.ijson_json.specs.Refuses.{Refuses}
 use Rattle.ijson_json.specs.declared.fault.Fault.{Fault}
 use Rattle.ijson_json.specs.declared.fault.Fault.TheVariants as faults
@@ -40,20 +45,30 @@ WordFault text word (faults.TooDeep left) = ⊥
 WordFault text word (faults.NumberRange left) = ⊥
 WordFault text word faults.Memory = ⊥
 
--- why there is no string
+-- no quote, or where the content after it stops
+abbrev pub StringStops : List ℕ → ℕ → Type 0
+StringStops text left =
+    ((left ≡ length text) × Past (λ b. b == 34) text) ⊎ ((inside : List ℕ) × (text ≡ 34 ∷ inside) × ContentStops inside left)
+
+-- where there is no string
 abbrev pub StringFault : List ℕ → Fault → Type 0
-StringFault text (faults.Syntax left) =
-    (left ≤ length text)
-    × ((s rest : List ℕ) → Front (λ front. IsString s front) text rest → ⊥)
+StringFault text (faults.Syntax left) = StringStops text left
 StringFault text (faults.TooDeep left) = ⊥
 StringFault text (faults.NumberRange left) = ⊥
 StringFault text faults.Memory = ⊤
 
--- why there is no number
+-- the bytes with which some number begins are none, or a byte of a number follows them
+pub record NumberStops (text : List ℕ) (left : ℕ) : Type 0 where
+  pub count : ℕ
+  pub front : IsNumberFront text count
+  pub left_is : left ≡ length text - count
+  pub stops : ((n : Decimal) → Spells (take count text) n → ⊥) ⊎ (Stops (drop count text) → ⊥)
+
+-- where there is no number, or one beyond the limit
 abbrev pub NumberFault : List ℕ → Fault → Type 0
-NumberFault text (faults.Syntax left) = (left ≤ length text) × NoNumber text
+NumberFault text (faults.Syntax left) = NumberStops text left
 NumberFault text (faults.TooDeep left) = ⊥
-NumberFault text (faults.NumberRange left) = (left ≤ length text) × PastLimitAt text
+NumberFault text (faults.NumberRange left) = (left ≡ length text) × IsUnread text OutOfRange
 NumberFault text faults.Memory = ⊤
 
 -- the error for a fault in a text of `length` bytes, of which `left` remained

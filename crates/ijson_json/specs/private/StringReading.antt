@@ -1,5 +1,5 @@
 -- The results of the functions that read a string, at the start of a text.
-use Rattle.std.specs.Prelude.{◌≡◌, ℕ, ◌≤◌, List, ◌∷◌, ◌++◌, ⊤, length, IsTrue, Option, Some, None}
+use Rattle.std.specs.Prelude.{◌≡◌, ◌≢◌, ℕ, List, ◌∷◌, ◌++◌, ⊤, length, IsTrue, Option, Some, None}
 use Rattle.std.specs.Char.{encode_utf8}
 use Rattle.ijson_json.specs.Strings.{Hex, Character, is_low_surrogate, paired, StringBody}
 use Rattle.ijson_json.specs.declared.fault.Fault.{Fault}
@@ -44,12 +44,20 @@ NoLow text =
 abbrev pub ContentAt : List ℕ → List ℕ → List ℕ → Type 0
 ContentAt text s rest = (body : List ℕ) × StringBody body s × (text ≡ body ++ 34 ∷ rest)
 
-abbrev pub NoContent : List ℕ → Type 0
-NoContent text = (s rest : List ℕ) → ContentAt text s rest → ⊥
+-- after whole characters there is neither a character nor the closing quote
+pub record ContentStops (text : List ℕ) (left : ℕ) : Type 0 where
+  pub body : List ℕ
+  pub meant : List ℕ
+  pub rest : List ℕ
+  pub is_body : StringBody body meant
+  pub is : text ≡ body ++ rest
+  pub left_is : left ≡ length rest
+  pub unclosed : (behind : List ℕ) → rest ≢ 34 ∷ behind
+  pub no_character : NoCharacter rest
 
--- why there is none
+-- where there is none
 abbrev pub ContentFault : List ℕ → Fault → Type 0
-ContentFault text (faults.Syntax left) = (left ≤ length text) × NoContent text
+ContentFault text (faults.Syntax left) = ContentStops text left
 ContentFault text (faults.TooDeep left) = ⊥
 ContentFault text (faults.NumberRange left) = ⊥
 ContentFault text faults.Memory = ⊤

@@ -2,8 +2,8 @@ use Rattle.std.proofs.Common.{[], List, ℕ, sym, rules}
 use Rattle.std.specs.String.{string_bytes}
 use Rattle.std.proofs.lemmas.List.{append-nil}
 use Rattle.ijson_json.proofs.scanning.Prefixes.{past_byte}
-use Rattle.ijson_json.proofs.reading.StringContent.{Appended, appended_more, reached_start, reached_quote, reached_stuck}
-use Rattle.ijson_json.proofs.reading.StringContent.{reached_shorter, after_run}
+use Rattle.ijson_json.proofs.reading.StringContent.{Appended, appended_more, reached_start, reached_quote, reached_stop}
+use Rattle.ijson_json.proofs.reading.StringContent.{after_run}
 use Rattle.ijson_json.proofs.read.string.push_content.Goals as goal
 
 pub loop-character-init : goal.loop-character-init
@@ -16,10 +16,8 @@ loop-character-init c = record {
 
 pub returns-in_default-clause-fault : goal.returns-in_default-clause-fault
 returns-in_default-clause-fault c =
-    let i = c.loop-character.invariant.read in (
-      reached_shorter i.1,
-      reached_stuck i.1 c.loop-character.invariant.unclosed (after_run _ c.loop-character.invariant.escape c.in_default.ensures),
-    )
+    reached_stop c.loop-character.invariant.read.1 c.loop-character.invariant.unclosed
+    (after_run _ c.loop-character.invariant.escape c.in_default.ensures)
 
 pub returns-in-Some-strip_byte-clause-read : goal.returns-in-Some-strip_byte-clause-read
 returns-in-Some-strip_byte-clause-read c =

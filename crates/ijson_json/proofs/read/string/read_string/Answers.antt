@@ -1,14 +1,10 @@
-use Rattle.std.proofs.Common.{arith}
+use Rattle.std.proofs.Common.{arith, inl}
 use Rattle.std.proofs.lemmas.Result.{err_from_is_err_and}
-use Rattle.ijson_json.proofs.scanning.Prefixes.{past_byte}
-use Rattle.ijson_json.proofs.reading.StringContent.{string_found, string_first, no_string}
+use Rattle.ijson_json.proofs.reading.StringContent.{string_found, no_string}
 use Rattle.ijson_json.proofs.read.string.read_string.Goals as goal
 
 pub returns-in_default-clause-read : goal.returns-in_default-clause-read
-returns-in_default-clause-read g c = (
-  omega arith,
-  λ s rest f. past_byte 34 c.args.text.now _ c.in_default.ensures (string_first c.args.text.now s rest f),
-)
+returns-in_default-clause-read g c = inl (omega arith, c.in_default.ensures)
 
 pub returns-in_err-text-clause-read : goal.returns-in_err-text-clause-read
 returns-in_err-text-clause-read g c =
