@@ -76,7 +76,7 @@ module _ {b : ℕ} {word : List ℕ} {t : Tree} (w : Word b word t) where
   -- a fault in the word
   word_fault : (opened : ℕ) (text more : List ℕ) (fault : Fault) → text ≡ b ∷ more → WordFault text word fault
       → Explains opened text fault
-  word_fault opened text more (faults.Syntax left) e h = (h.0, word_alone text more e h.1)
+  word_fault opened text more (faults.Syntax left) e h = (omega (arith, h.2), word_alone text more e h.3)
   word_fault opened text more fault e h = absurd h
 
   -- the result of reading a text that may begin with the word

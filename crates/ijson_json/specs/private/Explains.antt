@@ -37,10 +37,20 @@ abbrev pub ExplainsMember : ℕ → List ℕ → Fault → Type 0
 ExplainsMember opened text fault =
     ExplainsOf (List ℕ × Tree) (λ m text. Pair m text) (λ m. m.1) opened text fault
 
--- why the text does not begin with the word
+-- the first `count` bytes of the text and the word are the same, and the next are not, if both have one
+pub record CommonFront (text word : List ℕ) (count : ℕ) : Type 0 where
+  pub front : List ℕ
+  pub rest : List ℕ
+  pub more : List ℕ
+  pub text_is : text ≡ front ++ rest
+  pub word_is : word ≡ front ++ more
+  pub count_is : count ≡ length front
+  pub differ : (b : ℕ) (x y : List ℕ) → rest ≡ b ∷ x → more ≡ b ∷ y → ⊥
+
+-- where the text is not the word
 abbrev pub WordFault : List ℕ → List ℕ → Fault → Type 0
 WordFault text word (faults.Syntax left) =
-    (left ≤ length text) × ((rest : List ℕ) → text ≢ word ++ rest)
+    (count : ℕ) × CommonFront text word count × (left ≡ length text - count) × ((rest : List ℕ) → text ≢ word ++ rest)
 WordFault text word (faults.TooDeep left) = ⊥
 WordFault text word (faults.NumberRange left) = ⊥
 WordFault text word faults.Memory = ⊥

@@ -2,7 +2,7 @@
 
 ghost use Rattle.std.specs.Prelude.{◌≡◌, ◌++◌, ◌∷◌, ◌==◌, ◌<◌, ◌≤◌, nat_lt, length, MatchOption, MatchResult, IfSome};
 ghost use Rattle.ijson_json.specs.private.Reading.{Past};
-ghost use Rattle.ijson_json.specs.private.Explains.{WordFault};
+ghost use Rattle.ijson_json.specs.private.Explains.{CommonFront, WordFault};
 
 use crate::fault::Fault;
 
@@ -38,9 +38,9 @@ pub(crate) fn strip_byte(text: &str, byte: u8) -> Option<&str>
 
 /// Returns the length of the common prefix of `text` and `word`.
 fn common_length(text: &str, word: &str) -> usize
-    ensures { result ≤ length text.now }
+    ensures { CommonFront text.now word.now result }
 {
-    let bytes = text.as_bytes().iter().zip(word.as_bytes());
+    let bytes = text.as_bytes().iter().zip(word.as_bytes().iter());
     bytes.take_while(|(a, b)| a == b).count()
 }
 
