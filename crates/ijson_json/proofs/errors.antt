@@ -6,4 +6,6 @@ pub mod LimitErrors
 pub mod EarlierLimits
 pub mod Completions
 pub mod CharacterPlaces
+pub mod Closings
 pub mod OneError
+pub mod AllowedErrors

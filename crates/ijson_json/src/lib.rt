@@ -12,7 +12,7 @@ mod scan;
 mod write;
 
 ghost use Rattle.ijson_json.specs.OneTree.{OneTree};
-ghost use Rattle.ijson_json.specs.OneError.{OneError, AcceptedHasNoError};
+ghost use Rattle.ijson_json.specs.OneError.{OneError, AcceptedHasNoError, ErrorIsAllowed};
 ghost use Rattle.ijson_json.specs.PrintedIsAccepted.{PrintedIsAccepted};
 
 pub use compacting::{CompactError, compact, compact_value};
@@ -33,4 +33,5 @@ pub fn grammar_law()
     ensures printed { PrintedIsAccepted }
     ensures no_error { AcceptedHasNoError }
     ensures one_error { OneError }
+    ensures allowed { ErrorIsAllowed }
 {}

@@ -42,9 +42,9 @@ module _ (E : Type 0) (S : Shape E) where
     pub ranged : all_ranged E S fs ≡ true → all_ranged E S (next ∷ more) ≡ true
 
   module _ (same : (e f : E) → ElementSame E S e f) where
-    -- the elements after one and its comma
-    after_one : (e : E) (first text : List ℕ) (fs : List E) (i x : List ℕ) → Spaced (λ inside. S.Is e inside) first → IsList S.Is fs i
-        → first ++ 44 ∷ text ≡ i ++ S.closing ∷ x → Others fs text x
+    -- an element and its comma, and the others
+    pub after_one : (e : E) (first text : List ℕ) (fs : List E) (i x : List ℕ) → Spaced (λ inside. S.Is e inside) first → IsList S.Is fs i
+        → first ++ 44 ∷ text ≡ i ++ S.closing ∷ x → (depth (S.inner e) ≤ deepest E S fs) × Others fs text x
     after_one e first text fs i x (b, v, s, sb, w, ss, f) l g = go fs l
       where
         cur : List ℕ
@@ -68,14 +68,14 @@ module _ (E : Type 0) (S : Shape E) where
           ranged = λ r. and_last (is_ranged (S.inner u)) (all_ranged E S (n ∷ ns)) r;
         }
 
-        go : (fs : List E) → IsList S.Is fs i → Others fs text x
+        go : (fs : List E) → IsList S.Is fs i → (depth (S.inner e) ≤ deepest E S fs) × Others fs text x
         go [] l = absurd (past_byte S.closing cur x (S.past_closing e v (s ++ 44 ∷ text) w)
             (run_same is_space b i cur (S.closing ∷ x) sb l past S.closing-space whole).1)
         go (u ∷ more) l =
             let a = at_elements E S u more b cur i x sb past l whole in
             let q = first_same E S u e more cur x v (s ++ 44 ∷ text) s (44 ∷ text) (same u e) a w
             (Ends-any (S.inner e) _ (space-Stops s (44 ∷ text) ss refl)) refl refl ss refl in
-            behind u more a.tail a.left q.1
+            (omega (arith, ap (λ (v : E). depth (S.inner v)) q.0), behind u more a.tail a.left q.1)
 
     -- the elements after some with their commas
     pub after_each : {P : List ℕ → Type 0} {pre : List ℕ} (text : List ℕ) (fs : List E) (i x : List ℕ) → EachWithComma P pre
@@ -87,7 +87,7 @@ module _ (E : Type 0) (S : Shape E) where
         record { next = u; more = more; inside = i; are = l; is = g; deep = omega arith; ranged = λ r. r }
     after_each text fs i x (comma_after {first} {more} p each) to o l g =
         let e = to first p in
-        let one = after_one e.0 first (more ++ text) fs i x e.1 l (sym (append_assoc first (44 ∷ more) text) ∙ g) in
+        let one = (after_one e.0 first (more ++ text) fs i x e.1 l (sym (append_assoc first (44 ∷ more) text) ∙ g)).1 in
         let others = after_each text (one.next ∷ one.more) one.inside x each to o one.are (one.is) in
         record {
           next = others.next;
@@ -118,17 +118,32 @@ module _ (E : Type 0) (S : Shape E) (L : Listing E S) where
     pub deep : suc (depth (S.inner element)) ≤ depth t
     pub ranged : is_ranged t ≡ true → is_ranged (S.inner element) ≡ true
 
+  -- the elements of a value that begins with the bracket
+  pub record Listed (t : Tree) (text : List ℕ) : Type 0 where
+    pub elements : List E
+    pub inside : List ℕ
+    pub behind : List ℕ
+    pub tree_is : t ≡ L.wrap elements
+    pub are : IsList S.Is elements inside
+    pub is : text ≡ inside ++ S.closing ∷ behind
+
+  pub listed : (t : Tree) (gap text whole x : List ℕ) → is_space L.opening ≡ false → IsSpace gap → Spaced (λ value. IsValue t value) whole
+      → whole ++ x ≡ gap ++ L.opening ∷ text → Listed t text
+  listed t gap text whole x apart sg (b, v, a, sb, w, sa, f) g =
+      let split : whole ++ x ≡ b ++ (v ++ (a ++ x)) = rw f (simp append_assoc) in
+      let same : b ++ (v ++ (a ++ x)) ≡ gap ++ L.opening ∷ text = sym split ∙ g in
+      let at = run_same is_space b gap (v ++ (a ++ x)) (L.opening ∷ text) sb sg (value-past_space t v (a ++ x) w) apart same in
+      let list = L.only t text (a ++ x) (record { front = v; holds = w; is = sym at.1 }) in
+      record { elements = list.0; inside = list.1; behind = a ++ x; tree_is = list.2; are = list.3; is = list.4 }
+
   -- after a bracket and some elements with their commas
   pub in_list : {P : List ℕ → Type 0} {pre : List ℕ} (t : Tree) (gap text whole x : List ℕ) → is_space L.opening ≡ false → IsSpace gap
       → EachWithComma P pre → ((first : List ℕ) → P first → (e : E) × Spaced (λ inside. S.Is e inside) first)
       → Opening S.closing text → Spaced (λ value. IsValue t value) whole → whole ++ x ≡ gap ++ L.opening ∷ (pre ++ text) → InList t text
-  in_list {pre = pre} t gap text whole x apart sg each to o (b, v, a, sb, w, sa, f) g =
-      let split : whole ++ x ≡ b ++ (v ++ (a ++ x)) = rw f (simp append_assoc) in
-      let same : b ++ (v ++ (a ++ x)) ≡ gap ++ L.opening ∷ (pre ++ text) = sym split ∙ g in
-      let at = run_same is_space b gap (v ++ (a ++ x)) (L.opening ∷ (pre ++ text)) sb sg (value-past_space t v (a ++ x) w) apart same in
-      let list = L.only t (pre ++ text) (a ++ x) (record { front = v; holds = w; is = sym at.1 }) in
-      let others = after_each E S L.same text list.0 list.1 (a ++ x) each to o list.3 list.4 in
-      let first = first_element E S others.next others.more others.inside (a ++ x) text others.are others.is in
+  in_list {pre = pre} t gap text whole x apart sg each to o s g =
+      let list = listed t gap (pre ++ text) whole x apart sg s g in
+      let others = after_each E S L.same text list.elements list.inside list.behind each to o list.are list.is in
+      let first = first_element E S others.next others.more others.inside list.behind text others.are others.is in
       record {
         element = others.next;
         first = first.0;
@@ -136,7 +151,7 @@ module _ (E : Type 0) (S : Shape E) (L : Listing E S) where
         spelled = first.2;
         stops = first.3;
         is = first.4;
-        deep = omega (arith, ap depth list.2, L.depth_is list.0, others.deep);
+        deep = omega (arith, ap depth list.tree_is, L.depth_is list.elements, others.deep);
         ranged = λ r. and_first (is_ranged (S.inner others.next)) (all_ranged E S others.more)
-            (others.ranged (rw (list.2, L.ranged_is list.0) at r));
+            (others.ranged (rw (list.tree_is, L.ranged_is list.elements) at r));
       }

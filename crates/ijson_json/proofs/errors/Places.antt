@@ -45,7 +45,7 @@ string_behind k l p q x y (b, v, a, sb, w, sa, f) (b', v', a', sb', w', sa', f')
     tails 58 58 _ _ (run_same is_space a a' (58 ∷ x) (58 ∷ y) sa sa' refl refl behind.1.1).1
 
 -- the value of a member begins behind its key and `:`
-member_value : (m : List ℕ × Tree) (first behind key text : List ℕ) → Spaced (λ pair. Pair m pair) first → IsKey key
+pub member_value : (m : List ℕ × Tree) (first behind key text : List ℕ) → Spaced (λ pair. Pair m pair) first → IsKey key
     → first ++ behind ≡ key ++ 58 ∷ text → (value : List ℕ) × Spaced (λ value. IsValue m.1 value) value × (value ++ behind ≡ text)
 member_value m first behind key text s (k, p) e =
     let (q, v, is_key, is_value, f) = spaced_pair_back m.0 m.1 first s in
@@ -55,7 +55,7 @@ member_value m first behind key text s (k, p) e =
 -- ---- a value inside containers
 
 -- a text that begins inside a container does not begin with `]`
-inside_opening : {P : List ℕ → Type 0} {opened : ℕ} {before : List ℕ} → Inside P opened before → (rest : List ℕ)
+pub inside_opening : {P : List ℕ → Type 0} {opened : ℕ} {before : List ℕ} → Inside P opened before → (rest : List ℕ)
     → ((last : List ℕ) → P last → Opening 93 (last ++ rest)) → Opening 93 (before ++ rest)
 inside_opening (here {text} p) rest starts = starts text p
 inside_opening (in_array gap sg each i) rest starts =
