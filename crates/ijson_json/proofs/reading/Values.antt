@@ -1,5 +1,5 @@
 -- One value: a scalar that was read, or a fault, since the first byte begins no kind of value or a number or string is at fault.
-use Rattle.std.proofs.Common.{◌≡◌, ℕ, false, List, [], ◌∷◌, ◌++◌, sym, ap, ◌∙◌, arith}
+use Rattle.std.proofs.Common.{◌≡◌, ℕ, true, false, List, [], ◌∷◌, ◌++◌, sym, ap, ◌∙◌, arith, inl, inr}
 use Rattle.std.specs.Prelude.{◌≢◌, ◌≤◌, Result, Ok, Err, nat_lt}
 use Rattle.std.specs.Borrow.{Bor}
 use Rattle.std.proofs.lemmas.Bool.Decides.{nat_tests}
@@ -13,13 +13,15 @@ use Rattle.ijson_string.specs.Cache.{Texts}
 use Rattle.ijson_json.specs.Ranged.{is_ranged}
 use Rattle.ijson_json.specs.Grammar.{IsValue, IsString}
 use Rattle.ijson_json.specs.private.Reading.{Past, Stops, Front, IsOutOfRange, NoValue, NoNumber, PastLimitAt}
-use Rattle.ijson_json.specs.private.Explains.{Explains, ExplainsMember, NumberFault, StringFault}
+use Rattle.ijson_json.specs.private.Explains.{Explains, ExplainsMember, IsApart, KeyFault, NumberFault, ScalarFault, StringFault}
 use Rattle.ijson_json.specs.private.ReadsScalar.{ReadsScalar}
 use Rattle.ijson_json.specs.private.ReadsValue.{ReadsValue}
 use Rattle.ijson_json.specs.Limits.{max_depth}
 use Rattle.ijson_json.specs.declared.read.scratch.Scratch.{Scratch}
 use Rattle.ijson_json.proofs.grammar.FirstBytes.{kind, kind_at, value_first, rank-le}
-use Rattle.ijson_json.proofs.reading.Members.{no_key}
+use Rattle.ijson_json.proofs.reading.Members.{no_key, no_colon}
+use Rattle.ijson_json.proofs.reading.Words.{null_word, boolean_word, word_fault}
+use Rattle.ijson_json.proofs.scanning.Prefixes.{front_shorter, skips_shorter}
 use Rattle.ijson_json.proofs.reading.Numbers.{no_number_at, past_limit}
 use Rattle.ijson_json.proofs.reading.StringContent.{string_left, no_string_at}
 
@@ -37,10 +39,6 @@ no_character text p t x stops g =
     let f = value_first t g.front g.holds in
     let whole : text ≡ f.0 ∷ (f.1 ++ x) = g.is ∙ ap (λ (l : List ℕ). l ++ x) f.3 in
     absurd (omega (arith, low_kind f.0 (rw whole at p), f.2, rank-le t))
-
--- the bytes with which no number begins
-abbrev pub IsApart : ℕ → Type 0
-IsApart first = (first ≢ 110) × (first ≢ 116) × (first ≢ 102) × (first ≢ 91) × (first ≢ 123) × (first ≢ 34)
 
 -- such a byte is none with which another value begins
 apart_kind : (first k : ℕ) → IsApart first → kind first ≡ k → k ≢ 2 → k ≡ 6
@@ -95,11 +93,31 @@ string_fault opened text more (faults.Syntax left) e h = (string_left text left 
 string_fault opened text more faults.Memory e h = tt
 string_fault opened text more fault e h = absurd h
 
+-- a fault in the string of a key is one of the key
+pub string_key : (text : List ℕ) (fault : Fault) → StringFault text fault → KeyFault text fault
+string_key text (faults.Syntax left) h = inl h
+string_key text faults.Memory h = tt
+string_key text fault h = absurd h
+
 -- a fault in a key is one of the member
-pub key_fault : (opened : ℕ) (text : List ℕ) (fault : Fault) → StringFault text fault → ExplainsMember opened text fault
-key_fault opened text (faults.Syntax left) h = (string_left text left h, no_key text (no_string_at text left h))
+pub key_fault : (opened : ℕ) (text : List ℕ) (fault : Fault) → KeyFault text fault → ExplainsMember opened text fault
+key_fault opened text (faults.Syntax left) (inl h) = (string_left text left h, no_key text (no_string_at text left h))
+key_fault opened text (faults.Syntax left) (inr h) = (
+  omega (arith, h.left_is, skips_shorter h.after h.rest h.skipped, front_shorter _ text h.after h.found),
+  no_colon h.key text h.after h.rest h.found h.skipped h.no_colon,
+)
 key_fault opened text faults.Memory h = tt
 key_fault opened text fault h = absurd h
+
+-- a fault in a scalar is one of the value
+scalar_fault : (opened : ℕ) (text : List ℕ) (fault : Fault) → ScalarFault text fault → Explains opened text fault
+scalar_fault opened text fault (first, more, e, inl h) = string_fault opened text more fault (begins 34 text first more e h.0) h.1
+scalar_fault opened text fault (first, more, e, inr (inl h)) = word_fault null_word opened text more fault (begins 110 text first more e h.0) h.1
+scalar_fault opened text fault (first, more, e, inr (inr (inl h))) =
+    word_fault (boolean_word true) opened text more fault (begins 116 text first more e h.0) h.1
+scalar_fault opened text fault (first, more, e, inr (inr (inr (inl h)))) =
+    word_fault (boolean_word false) opened text more fault (begins 102 text first more e h.0) h.1
+scalar_fault opened text fault (first, more, e, inr (inr (inr (inr h)))) = other_fault opened text first more fault e h.0 h.1
 
 -- reading a scalar is reading a value
 pub scalar_read : (opened : ℕ) (text : List ℕ) (result : Result (WellFormed × Bor (List ℕ)) Fault) (old new : Texts)
@@ -110,4 +128,4 @@ scalar_read opened text (Ok x) old new before after within values members scalar
   answer = record { read = scalar.answer.read opened within; shared = scalar.answer.shared; values = values; members = members };
 }
 scalar_read opened text (Err fault) old new before after within values members scalar =
-    record { cache = scalar.cache; answer = scalar.answer opened }
+    record { cache = scalar.cache; answer = scalar_fault opened text fault scalar.answer }

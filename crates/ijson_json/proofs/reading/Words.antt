@@ -1,5 +1,5 @@
 -- The words `null`, `true` and `false`: reading one, and why there is none.
-use Rattle.std.proofs.Common.{◌≡◌, ℕ, ◌≤◌, Bool, true, false, List, ◌∷◌, ◌++◌, refl, sym, ap, ◌∙◌, arith}
+use Rattle.std.proofs.Common.{◌≡◌, ℕ, ◌≤◌, Bool, true, false, List, ◌∷◌, ◌++◌, refl, sym, ap, ◌∙◌, arith, inl, inr}
 use Rattle.std.specs.Prelude.{◌≢◌, Result, MatchResult}
 use Rattle.std.specs.Borrow.{Bor}
 use Rattle.std.proofs.lemmas.Result.{MatchResult-weaker}
@@ -11,7 +11,7 @@ use Rattle.ijson_json.specs.AreShared.{AreShared}
 use Rattle.ijson_json.specs.Grammar.{IsValue, null_text, boolean_text}
 use Rattle.ijson_json.specs.Limits.{max_depth}
 use Rattle.ijson_json.specs.private.Reading.{Front, NoValue, ReadAs}
-use Rattle.ijson_json.specs.private.Explains.{Explains, WordFault}
+use Rattle.ijson_json.specs.private.Explains.{Explains, WordFault, ScalarFault}
 use Rattle.ijson_json.specs.private.ReadsScalar.{ReadsScalar}
 use Rattle.ijson_json.specs.declared.fault.Fault.{Fault}
 use Rattle.ijson_json.specs.declared.fault.Fault.TheVariants as faults
@@ -24,6 +24,7 @@ pub record Word (b : ℕ) (word : List ℕ) (t : Tree) : Type 0 where
   pub spells : IsValue t word
   pub alone : (u : Tree) (more x : List ℕ) (f : Front (λ value. IsValue u value) (b ∷ more) x) → f.front ≡ word
   pub flat : rank t ≤ 1
+  pub scalar : (text more : List ℕ) (fault : Fault) → text ≡ b ∷ more → WordFault text word fault → ScalarFault text fault
 
 -- only `null` begins with an n
 null_alone : (t : Tree) (more x : List ℕ) (f : Front (λ value. IsValue t value) (110 ∷ more) x) → f.front ≡ null_text
@@ -32,7 +33,12 @@ null_alone t more x f = absurd (let k : 0 ≡ rank t = kind_at t 110 more _ x re
 
 -- the word `null`
 pub null_word : Word 110 null_text null
-null_word = record { spells = refl; alone = null_alone; flat = omega arith }
+null_word = record {
+  spells = refl;
+  alone = null_alone;
+  flat = omega arith;
+  scalar = λ text more fault e h. (110, more, e, inr (inl (refl, h)));
+}
 
 -- the first byte of a Boolean
 abbrev first_of : Bool → ℕ
@@ -49,9 +55,14 @@ boolean_alone false (boolean true) more x f = absurd (heads_apart 102 116 _ _ (r
 boolean_alone true t more x f = absurd (let k : 1 ≡ rank t = kind_at t 116 more _ x refl f in omega (arith, k))
 boolean_alone false t more x f = absurd (let k : 1 ≡ rank t = kind_at t 102 more _ x refl f in omega (arith, k))
 
+boolean_scalar : (a : Bool) (text more : List ℕ) (fault : Fault) → text ≡ first_of a ∷ more → WordFault text (boolean_text a) fault
+    → ScalarFault text fault
+boolean_scalar true text more fault e h = (116, more, e, inr (inr (inl (refl, h))))
+boolean_scalar false text more fault e h = (102, more, e, inr (inr (inr (inl (refl, h)))))
+
 -- the word `true` or `false`
 pub boolean_word : (a : Bool) → Word (first_of a) (boolean_text a) (boolean a)
-boolean_word a = record { spells = refl; alone = boolean_alone a; flat = omega arith }
+boolean_word a = record { spells = refl; alone = boolean_alone a; flat = omega arith; scalar = boolean_scalar a }
 
 -- a word is read as its tree, whatever follows it, and has no strings
 word_found : (t : Tree) → rank t ≤ 1 → (word rest : List ℕ) → IsValue t word → (opened : ℕ) → opened ≤ max_depth
@@ -74,7 +85,7 @@ module _ {b : ℕ} {word : List ℕ} {t : Tree} (w : Word b word t) where
       n x (g.is ∙ ap (λ (l : List ℕ). l ++ x) (w.alone u more x (record { front = g.front; holds = g.holds; is = sym e ∙ g.is })))
 
   -- a fault in the word
-  word_fault : (opened : ℕ) (text more : List ℕ) (fault : Fault) → text ≡ b ∷ more → WordFault text word fault
+  pub word_fault : (opened : ℕ) (text more : List ℕ) (fault : Fault) → text ≡ b ∷ more → WordFault text word fault
       → Explains opened text fault
   word_fault opened text more (faults.Syntax left) e h = (omega (arith, h.2), word_alone text more e h.3)
   word_fault opened text more fault e h = absurd h
@@ -92,5 +103,5 @@ module _ {b : ℕ} {word : List ℕ} {t : Tree} (w : Word b word t) where
           read = λ opened within. rw same (word_found t w.flat word x.1.now w.spells opened within);
           shared = rw same (word_shares t w.flat cache);
         }))
-        (λ fault why opened. word_fault opened text more fault (e ∙ ap (λ (c : ℕ). c ∷ more) f) why);
+        (λ fault why. w.scalar text more fault (e ∙ ap (λ (c : ℕ). c ∷ more) f) why);
   }

@@ -1,5 +1,5 @@
 -- The meaning of the faults of the reader's private functions for the text.
-use Rattle.std.specs.Prelude.{◌≡◌, ◌≢◌, ◌==◌, ◌⊎◌, ℕ, ◌+◌, ◌-◌, ◌<◌, ◌≤◌, false, List, ◌∷◌, ◌++◌, ⊤, length, take, drop, Result, Ok, Err}
+use Rattle.std.specs.Prelude.{◌≡◌, ◌≢◌, ◌==◌, ◌⊎◌, ℕ, ◌+◌, ◌-◌, ◌<◌, ◌≤◌, true, false, List, ◌∷◌, ◌++◌, ⊤, length, take, drop, Result, Ok, Err}
 use Rattle.ijson_number.specs.Decimal.{Decimal}
 use Rattle.ijson_number.specs.Grammar.{Spells}
 use Rattle.ijson_number.specs.NumberFront.{IsNumberFront, IsUnread}
@@ -7,8 +7,8 @@ use Rattle.ijson_number.specs.declared.number.ReadNumberError.TheVariants.{OutOf
 use Rattle.ijson_value.specs.Tree.{Tree, depth}
 use Rattle.ijson_value.specs.WellFormed.{WellFormed}
 use Rattle.ijson_json.specs.Ranged.{is_ranged}
-use Rattle.ijson_json.specs.Grammar.{Accepted, IsValue}
-use Rattle.ijson_json.specs.private.Reading.{Past, Stops, Pair, NoneAt, Beyond}
+use Rattle.ijson_json.specs.Grammar.{Accepted, IsString, IsValue, null_text, boolean_text}
+use Rattle.ijson_json.specs.private.Reading.{Past, Stops, Skips, Front, Pair, NoneAt, Beyond}
 use Rattle.ijson_json.specs.private.StringReading.{ContentStops}
 use Rattle.ijson_json.specs.Refuses.{Refuses}
 use Rattle.ijson_json.specs.declared.fault.Fault.{Fault}
@@ -80,6 +80,35 @@ NumberFault text (faults.Syntax left) = NumberStops text left
 NumberFault text (faults.TooDeep left) = ⊥
 NumberFault text (faults.NumberRange left) = (left ≡ length text) × IsUnread text OutOfRange
 NumberFault text faults.Memory = ⊤
+
+-- a byte with which no value but a number begins
+abbrev pub IsApart : ℕ → Type 0
+IsApart first = (first ≢ 110) × (first ≢ 116) × (first ≢ 102) × (first ≢ 91) × (first ≢ 123) × (first ≢ 34)
+
+-- where there is no value but a container, by its first byte
+abbrev pub ScalarFault : List ℕ → Fault → Type 0
+ScalarFault text fault =
+    (first : ℕ) × (more : List ℕ) × (text ≡ first ∷ more)
+    × ((first ≡ 34 × StringFault text fault) ⊎ ((first ≡ 110 × WordFault text null_text fault)
+    ⊎ ((first ≡ 116 × WordFault text (boolean_text true) fault)
+    ⊎ ((first ≡ 102 × WordFault text (boolean_text false) fault) ⊎ (IsApart first × NumberFault text fault)))))
+
+-- no `:` behind the key and its white space
+pub record ColonStops (text : List ℕ) (left : ℕ) : Type 0 where
+  pub key : List ℕ
+  pub after : List ℕ
+  pub rest : List ℕ
+  pub found : Front (λ front. IsString key front) text after
+  pub skipped : Skips after rest
+  pub no_colon : Past (λ b. b == 58) rest
+  pub left_is : left ≡ length rest
+
+-- where there is no key with its `:`
+abbrev pub KeyFault : List ℕ → Fault → Type 0
+KeyFault text (faults.Syntax left) = StringStops text left ⊎ ColonStops text left
+KeyFault text (faults.TooDeep left) = ⊥
+KeyFault text (faults.NumberRange left) = ⊥
+KeyFault text faults.Memory = ⊤
 
 -- the error for a fault in a text of `length` bytes, of which `left` remained
 abbrev pub error_of : ℕ → Fault → JsonError

@@ -4,7 +4,7 @@ use Rattle.std.specs.Borrow.{Bor}
 use Rattle.ijson_string.specs.Cache.{Texts}
 use Rattle.ijson_json.specs.AddsOnlyRead.{AddsOnlyRead}
 use Rattle.ijson_json.specs.AreShared.{IsShared}
-use Rattle.ijson_json.specs.private.Explains.{ExplainsMember}
+use Rattle.ijson_json.specs.private.Explains.{KeyFault}
 use Rattle.ijson_json.specs.private.Reading.{KeyRead}
 use Rattle.ijson_json.specs.declared.fault.Fault.{Fault}
 
@@ -19,4 +19,4 @@ pub record ReadsKey (text : List ℕ) (result : Result (List ℕ × Bor (List �
   pub cache : AddsOnlyRead text old new
   pub answer : MatchResult result
       (λ x. HasRead text new x.0 x.1.now)
-      (λ fault. (opened : ℕ) → ExplainsMember opened text fault)
+      (λ fault. KeyFault text fault)

@@ -6,7 +6,7 @@ use Rattle.ijson_value.specs.WellFormed.{WellFormed}
 use Rattle.ijson_json.specs.AddsOnlyRead.{AddsOnlyRead}
 use Rattle.ijson_json.specs.AreShared.{AreShared}
 use Rattle.ijson_json.specs.Limits.{max_depth}
-use Rattle.ijson_json.specs.private.Explains.{Explains}
+use Rattle.ijson_json.specs.private.Explains.{ScalarFault}
 use Rattle.ijson_json.specs.private.Reading.{ReadAs}
 use Rattle.ijson_json.specs.declared.fault.Fault.{Fault}
 
@@ -21,4 +21,4 @@ pub record ReadsScalar (text : List ℕ) (result : Result (WellFormed × Bor (Li
   pub cache : AddsOnlyRead text old new
   pub answer : MatchResult result
       (λ x. ScalarRead text new x.0 x.1.now)
-      (λ fault. (opened : ℕ) → Explains opened text fault)
+      (λ fault. ScalarFault text fault)

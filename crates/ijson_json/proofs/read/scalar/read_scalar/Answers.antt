@@ -1,11 +1,10 @@
-use Rattle.std.proofs.Common.{true, false, arith, rules, refl, sym, subst}
+use Rattle.std.proofs.Common.{true, false, arith, rules, refl, sym, subst, inl, inr}
 use Rattle.std.proofs.lemmas.Result.{err_from_is_err_and}
 use Rattle.ijson_value.specs.WellFormed.{WellFormed}
 use Rattle.ijson_string.specs.Cache.{Texts}
 use Rattle.ijson_json.specs.AddsOnlyRead.{AddsOnlyRead}
 use Rattle.ijson_json.specs.AreShared.{AreShared}
 use Rattle.ijson_json.proofs.reading.CacheContents.{adds_none, string_adds, string_shared}
-use Rattle.ijson_json.proofs.reading.Values.{begins, other_fault, string_fault}
 use Rattle.ijson_json.proofs.reading.Words.{null_word, boolean_word, word_reads}
 use Rattle.ijson_json.proofs.read.scalar.read_scalar.Goals as goal
 
@@ -18,8 +17,7 @@ returns-in_err-string-in-34 g c =
     rw (p.1, p.2) (record {
       cache = subst (λ (cache : Texts). AddsOnlyRead c.args.text.now c.args.cache.now cache) (sym c.in_err-string-in-34.ensures.refused)
           (adds_none c.args.text.now c.args.cache.now);
-      answer = λ opened. string_fault opened c.args.text.now b.0 c.in_err-string-in-34.field-0.0
-          (begins 34 c.args.text.now c.args.first b.0 b.1 c.in-34.is) c.in_err-string-in-34.ensures.read;
+      answer = (c.args.first, b.0, b.1, inl (c.in-34.is, c.in_err-string-in-34.ensures.read));
     })
 
 pub returns-in_ok-string-in-34 : goal.returns-in_ok-string-in-34
@@ -58,6 +56,20 @@ returns-in_err-number-in_default g c =
     let b = c.requires.begins in
     rw (p.1, p.2) (record {
       cache = adds_none c.args.text.now c.args.cache.now;
-      answer = λ opened. other_fault opened c.args.text.now c.args.first b.0 c.in_err-number-in_default.field-0.0 b.1
-          (omega arith, omega arith, omega arith, c.requires.apart.0, c.requires.apart.1, omega arith) c.in_err-number-in_default.ensures;
+      answer = (
+        c.args.first,
+        b.0,
+        b.1,
+        inr (inr (inr (inr (
+          (
+            omega arith,
+            omega arith,
+            omega arith,
+            c.requires.apart.0,
+            c.requires.apart.1,
+            omega arith,
+          ),
+          c.in_err-number-in_default.ensures,
+        )))),
+      );
     })

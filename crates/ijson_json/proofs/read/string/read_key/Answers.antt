@@ -1,11 +1,9 @@
-use Rattle.std.proofs.Common.{◌≤◌, length, arith, rules, sym, subst}
+use Rattle.std.proofs.Common.{arith, rules, sym, subst, inr}
 use Rattle.std.proofs.lemmas.Result.{err_from_is_err_and}
 use Rattle.ijson_string.specs.Cache.{Texts}
 use Rattle.ijson_json.specs.AddsOnlyRead.{AddsOnlyRead}
-use Rattle.ijson_json.proofs.scanning.Prefixes.{front_shorter, skips_shorter}
 use Rattle.ijson_json.proofs.reading.CacheContents.{adds_none, string_adds, string_shared}
-use Rattle.ijson_json.proofs.reading.Members.{no_colon}
-use Rattle.ijson_json.proofs.reading.Values.{key_fault}
+use Rattle.ijson_json.proofs.reading.Values.{string_key}
 use Rattle.ijson_json.proofs.read.string.read_key.Goals as goal
 
 pub returns-in_err-key : goal.returns-in_err-key
@@ -14,26 +12,24 @@ returns-in_err-key g c =
     rw (p.1, p.2) (record {
       cache = subst (λ (cache : Texts). AddsOnlyRead c.args.text.now c.args.cache.now cache) (sym c.in_err-key.ensures.refused)
           (adds_none c.args.text.now c.args.cache.now);
-      answer = λ opened. key_fault opened c.args.text.now c.in_err-key.field-0.0 c.in_err-key.ensures.read;
+      answer = string_key c.args.text.now c.in_err-key.field-0.0 c.in_err-key.ensures.read;
     })
 
 pub returns-in-None : goal.returns-in-None
 returns-in-None g c =
     let found = c.in_ok-key.ensures in
-    let short : length c.skip_space-after.result.now ≤ length c.args.text.now =
-    omega (
-      arith,
-      skips_shorter c.in_ok-key.after.now c.skip_space-after.result.now c.skip_space-after.ensures,
-      front_shorter _ c.args.text.now c.in_ok-key.after.now found.read,
-    ) in
     record {
       cache = string_adds c.args.text.now c.in_ok-key.after.now c.in_ok-key.key c.args.cache.now c.read_string.new.cache found.read
           found.cache;
-      answer = λ opened. (
-        short,
-        no_colon c.in_ok-key.key c.args.text.now c.in_ok-key.after.now c.skip_space-after.result.now found.read c.skip_space-after.ensures
-            (search rules),
-      );
+      answer = inr (record {
+        key = c.in_ok-key.key;
+        after = c.in_ok-key.after.now;
+        rest = c.skip_space-after.result.now;
+        found = found.read;
+        skipped = c.skip_space-after.ensures;
+        no_colon = search rules;
+        left_is = omega arith;
+      });
     }
 
 pub returns-in-Some : goal.returns-in-Some

@@ -21,7 +21,7 @@ use Rattle.ijson_json.proofs.reading.Elements.{empty_read}
 use Rattle.ijson_json.proofs.reading.Gathering.{gathered_start, gathered_adds, gathered_refused, gathered_more, gathered_end}
 use Rattle.ijson_json.proofs.reading.GatheredTrees.{kept_items, kept_members}
 use Rattle.ijson_json.proofs.reading.Members.{member_read, member_fault}
-use Rattle.ijson_json.proofs.reading.Values.{begins, no_character, scalar_read}
+use Rattle.ijson_json.proofs.reading.Values.{begins, key_fault, no_character, scalar_read}
 use Rattle.ijson_json.proofs.read.value.+read.Goals as goal
 use Rattle.ijson_json.proofs.read.value.+read.Goals.{read_container-then-first-eq91, read_container-else-first-eq91}
 
@@ -183,7 +183,8 @@ pub read_object-returns-in_err-key : goal.read_object-returns-in_err-key
 read_object-returns-in_err-key g t c =
     let i = c.loop-key.invariant.read in
     gathered_refused i c.in_err-key.field-0.0 c.from_residual.ensures.1 (search rules)
-    (element_fault i.reached c.in_err-key.field-0.0 (c.in_err-key.ensures.answer (c.args.opened + 1)))
+    (element_fault i.reached c.in_err-key.field-0.0
+    (key_fault (c.args.opened + 1) c.loop-key.rest.now c.in_err-key.field-0.0 c.in_err-key.ensures.answer))
 
 pub read_object-returns-in-Err : goal.read_object-returns-in-Err
 read_object-returns-in-Err g t c =
