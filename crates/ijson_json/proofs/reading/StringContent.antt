@@ -95,14 +95,14 @@ module _ {text s rest : List ℕ} (r : Reached text s rest) where
       (r.written ++ body, body-append r.body h, r.is ∙ rw e (sym (append_assoc r.written body (34 ∷ behind))))
 
   -- the content stops here
-  pub reached_stop : ((behind : List ℕ) → rest ≢ 34 ∷ behind) → NoCharacter rest → ContentStops text (length rest)
-  reached_stop unclosed none = record {
+  pub reached_stop : (left : ℕ) → left ≡ length rest → ((behind : List ℕ) → rest ≢ 34 ∷ behind) → NoCharacter rest → ContentStops text left
+  reached_stop left is unclosed none = record {
     body = r.written;
     meant = s;
     rest = rest;
     is_body = r.body;
     is = r.is;
-    left_is = refl;
+    left_is = is;
     unclosed = unclosed;
     no_character = none;
   }

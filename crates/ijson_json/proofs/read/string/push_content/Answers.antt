@@ -1,4 +1,4 @@
-use Rattle.std.proofs.Common.{[], List, ℕ, sym, rules}
+use Rattle.std.proofs.Common.{[], List, ℕ, arith, sym, rules}
 use Rattle.std.specs.String.{string_bytes}
 use Rattle.std.proofs.lemmas.List.{append-nil}
 use Rattle.ijson_json.proofs.scanning.Prefixes.{past_byte}
@@ -16,7 +16,7 @@ loop-character-init c = record {
 
 pub returns-in_default-clause-fault : goal.returns-in_default-clause-fault
 returns-in_default-clause-fault c =
-    reached_stop c.loop-character.invariant.read.1 c.loop-character.invariant.unclosed
+    reached_stop c.loop-character.invariant.read.1 _ (omega arith) c.loop-character.invariant.unclosed
     (after_run _ c.loop-character.invariant.escape c.in_default.ensures)
 
 pub returns-in-Some-strip_byte-clause-read : goal.returns-in-Some-strip_byte-clause-read
