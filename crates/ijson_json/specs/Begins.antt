@@ -1,4 +1,4 @@
--- The bytes with which JSON texts begin. This project's own.
+-- The bytes with which JSON texts begin.
 use Rattle.std.specs.Prelude.{ℕ, Bool, List, ◌++◌}
 use Rattle.ijson_value.specs.Tree.{Tree}
 use Rattle.ijson_json.specs.Grammar.{Reads, Accepted}

@@ -1,4 +1,4 @@
--- The error of `compact` for an error of the reader. This project's own.
+-- The error of `compact` for an error of the reader.
 use Rattle.ijson_json.specs.declared.fault.JsonError.{JsonError}
 use Rattle.ijson_json.specs.declared.fault.JsonError.TheVariants as json
 use Rattle.ijson_json.specs.declared.compacting.CompactError.{CompactError}

@@ -1,4 +1,4 @@
--- The meaning of an error of `compact` for the bytes read. This project's own.
+-- The meaning of an error of `compact` for the bytes read.
 use Rattle.std.specs.Prelude.{ℕ, List, ⊤, IsUtf8}
 use Rattle.ijson_json.specs.Refuses.{Refuses}
 use Rattle.ijson_json.specs.declared.compacting.CompactError.{CompactError}

@@ -1,4 +1,4 @@
--- The output of `compact` for the bytes read, and the strings they add to the cache. This project's own.
+-- The output of `compact` for the bytes read, and the strings they add to the cache.
 use Rattle.std.specs.Prelude.{◌≡◌, ℕ, List, [], ◌∷◌, ◌++◌, Option, Some, IfSome, IsUtf8}
 use Rattle.std.specs.Io.KnownBytes.{Appends}
 use Rattle.ijson_value.specs.Tree.{Tree}

@@ -1,4 +1,4 @@
--- The error of a text that is rejected, and its offset, by the text alone. This project's own.
+-- The error of a text that is rejected, and its offset, by the text alone.
 use Rattle.std.specs.Prelude.{◌≡◌, ◌≢◌, ◌⊎◌, ℕ, List, [], ◌∷◌, ◌++◌, length}
 use Rattle.ijson_number.specs.NumberFront.{IsUnread}
 use Rattle.ijson_number.specs.declared.number.ReadNumberError.TheVariants.{OutOfRange}

@@ -79,7 +79,7 @@ pub record Reads (text : List ℕ) (tree : Tree) (deepest : ℕ) (ranged : Bool)
   pub deepest_is : deepest ≡ depth written
   pub ranged_is : ranged ≡ is_ranged written
 
--- within the limits on nesting and on exponents, which are this project's own
+-- JSON text for the tree, within this project's limits on nesting and exponents
 abbrev pub Accepted : List ℕ → Tree → Type 0
 Accepted text tree = (deepest : ℕ) × (deepest ≤ max_depth) × Reads text tree deepest true
 

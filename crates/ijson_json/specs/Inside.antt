@@ -1,4 +1,4 @@
--- The bytes before a place in a JSON text, by the containers that are open there. This project's own.
+-- The bytes before a place in a JSON text, by the containers that are open there.
 use Rattle.std.specs.Prelude.{◌≡◌, ◌⊎◌, ℕ, suc, List, [], ◌∷◌, ◌++◌}
 use Rattle.ijson_value.specs.Tree.{Tree}
 use Rattle.ijson_json.specs.Strings.{StringBody}

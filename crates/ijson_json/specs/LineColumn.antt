@@ -1,5 +1,5 @@
 -- The number of lines and characters in some bytes of a UTF-8 text. A line ends with a line feed, and a character is counted at its first
--- byte. This project's own.
+-- byte.
 use Rattle.std.specs.Prelude.{◌≡◌, ◌+◌, ◌-◌, ◌^◌, min, ◌++◌, ◌⊎◌, ℕ, suc, List, [], ◌∷◌, Bool, cond, nat_eq, nat_lt, leb, ◌||◌}
 
 -- the number of line feeds

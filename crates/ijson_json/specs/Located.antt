@@ -1,4 +1,4 @@
--- An error with the line and column of its offset, and its message. This project's own.
+-- An error with the line and column of its offset, and its message.
 use Rattle.std.specs.Prelude.{ℕ, List, ◌++◌, codes, take, ⊤}
 use Rattle.std.specs.Fmt.{decimal}
 use Rattle.ijson_json.specs.LineColumn.{Follows}

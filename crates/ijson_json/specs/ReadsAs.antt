@@ -1,4 +1,4 @@
--- The result of a function of a text: it is about the tree of the text, or states why the text has none. This project's own.
+-- The result of a function of a text: it is about the tree of the text, or states why the text has none.
 use Rattle.std.specs.Prelude.{◌≡◌, ℕ, List, Result, Ok, Err, MatchResult, IfErr}
 use Rattle.ijson_value.specs.Tree.{Tree}
 use Rattle.ijson_json.specs.Grammar.{Accepted}

@@ -1,4 +1,4 @@
--- Why a text is rejected, and what that means for it. This project's own.
+-- Why a text is rejected, and what that means for it.
 use Rattle.std.specs.Prelude.{◌≡◌, ℕ, ◌+◌, ◌<◌, ◌≤◌, Bool, false, List, ◌++◌, ⊤, length}
 use Rattle.ijson_value.specs.Tree.{Tree}
 use Rattle.ijson_json.specs.Grammar.{Reads, IsClosers}
@@ -35,7 +35,7 @@ PassesDepth text =
 abbrev pub PassesRange : List ℕ → Type 0
 PassesRange text = Passes (λ _ ranged. ranged ≡ false) (λ _ ranged. ranged ≡ false) text
 
--- the meaning of each error for the text: its offset is within the text, and why it occurs
+-- what an error means for the text: its offset is within the text, and its reason holds
 abbrev pub Refuses : List ℕ → JsonError → Type 0
 Refuses text (Syntax at) = (at ≤ length text) × HasNoReading text
 Refuses text (TooDeep at) = (at ≤ length text) × PassesDepth text

@@ -1,4 +1,4 @@
--- A sink in memory. This project's own.
+-- A sink in memory.
 use Rattle.std.specs.Prelude.{ℕ, List}
 
 -- the bytes received, the maximum number of bytes per call, the number of bytes before each call fails, and the number of failed calls

@@ -1,4 +1,4 @@
--- A source in memory. This project's own.
+-- A source in memory.
 use Rattle.std.specs.Prelude.{ℕ, List}
 
 -- the remaining bytes, the maximum number of bytes per call, the number of bytes before each call fails, and the number of failed calls

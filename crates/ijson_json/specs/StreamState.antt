@@ -1,4 +1,4 @@
--- A device over a reader or a writer. This project's own.
+-- A device over a reader or a writer.
 use Rattle.std.specs.Prelude.{ℕ}
 
 -- the reader or writer, and the number of failed calls

@@ -1,4 +1,4 @@
--- The part of a text that was written before a failure, to a sink or at the end of another text. This project's own.
+-- The part of a text that was written before a failure, to a sink or at the end of another text.
 use Rattle.std.specs.Prelude.{◌≡◌, ◌≢◌, ℕ, List, [], ◌++◌, Option}
 use Rattle.std.specs.Io.KnownBytes.{Appends}
 

@@ -100,7 +100,7 @@ module _ (E : Type 0) (S : Shape E) where
       let same = run_same is_space s f.0 cur f.1 h f.2 p (at-past_space e more f.1 x f.3) (g ∙ f.4) in
       subst (λ (c : List ℕ). At e more c x) (sym same.1) f.3
 
-  -- the same element, and the same text after it
+  -- equal texts begin with the same element and have the same rest
   abbrev pub ElementSame : E → E → Type 0
   ElementSame e f = (a b x y : List ℕ) → S.Is e a → S.Is f b → Ends (S.inner e) x → Ends (S.inner f) y → a ++ x ≡ b ++ y
       → (e ≡ f) × ((a ≡ b) × (x ≡ y))

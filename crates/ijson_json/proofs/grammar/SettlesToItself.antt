@@ -22,12 +22,12 @@ mutual
       ap object (ap members_of alone ∙ settles_members ms h.1)
   settles t h = refl
 
-  -- and so do its elements
+  -- settling keeps items
   settles_items : (is : Items) → AreWellFormed is → settled_items is ≡ is
   settles_items no_items h = refl
   settles_items (item t more) h = ap₂ item (settles t h.0) (settles_items more h.1)
 
-  -- and its members
+  -- settling keeps members
   settles_members : (ms : Members) → HaveWellFormed ms → members_of (settled_pairs ms) ≡ ms
   settles_members no_members h = refl
   settles_members (member k t more) h = ap₂ (λ (u : Tree) (m : Members). member k u m) (settles t h.0) (settles_members more h.1)

@@ -88,7 +88,7 @@ module _ {E : Type 0} {S : Shape E} {L : Listing E S} {K : Gathers E S L}
       share = K.share rest cache new i.kept k adds i.share shares;
     }
 
-    -- the last element was read, and the closing bracket: the values popped are those stored, and those below before are left
+    -- the last element and the bracket were read: the stored values are popped, and `below` is left
     pub gathered_end : {behind : List ℕ} {taken left : List K.Kept} {base : ℕ} → Closes S.closing after behind → base ≡ length below
         → taken ≡ drop base pushed → left ≡ take base pushed → record {
           read : IsRead opened text (L.wrap (i.written ++ e ∷ [])) behind;

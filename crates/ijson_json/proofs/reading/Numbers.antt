@@ -35,7 +35,7 @@ spelled_boundary text count n u within s = behind_ascii text u count within
     (λ k h. number_ascii _ (rw (get_or-take count text k 0 h) at (number_byte (take count text) n s k
     (let e = length-take-le count text within in omega arith))))
 
--- no number goes on after bytes that stop one
+-- a number ends before text that stops it
 not_inside : (text : List ℕ) (count : ℕ) → IsNumberFront text count → (front rest : List ℕ) → text ≡ front ++ rest → Stops rest
     → length front < count → ⊥
 not_inside text count f front [] is stops less = let within = f.within in omega (arith, less, within, ap length is ∙ length-append front [])

@@ -28,7 +28,7 @@ past_byte b x cs h e = past_first (λ c. c == b) x b cs h e (eq-eqb b b refl)
 pub heads : (a b : ℕ) (x y : List ℕ) → a ∷ x ≡ b ∷ y → a ≡ b
 heads a b x y e = cc
 
--- equal texts continue with the same bytes
+-- equal lists have equal tails
 pub tails : (a b : ℕ) (x y : List ℕ) → a ∷ x ≡ b ∷ y → x ≡ y
 tails a b x y e = cc
 

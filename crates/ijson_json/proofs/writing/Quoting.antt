@@ -44,7 +44,7 @@ on_ok (Err x) new longer same want e f = tt
 
 -- ---- failed allocations
 
--- the clause of a last call that appends, if it failed and changed nothing
+-- a clause for `Err` after a last append that failed and changed nothing
 pub on_refused : {A E : Type 0} {P : Type 0} (r : Result A E) (new longer same : List ℕ) → new ≡ (if is_ok r then longer else same)
     → (new ≡ same → P) → OnErr r P
 on_refused (Ok a) new longer same e f = tt

@@ -101,7 +101,7 @@ fn take_unit(text: &str) -> Option<(u32, &str)>
     Some((unit, &text[4..]))
 }
 
-/// Returns the character of a high surrogate and of the low one whose escape follows.
+/// Reads an escaped low surrogate; returns its character with `high`, and the text after it.
 fn take_low(high: u32, text: &str) -> Option<(char, &str)>
     requires { IsTrue (is_high_surrogate high) }
     ensures { MatchOption result (NoLow text.now)

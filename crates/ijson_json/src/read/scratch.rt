@@ -20,9 +20,9 @@ const MANY_ITEMS: usize = 64;
 /// The elements, members and string content that are in no value yet.
 #[derive(Drop)]
 pub(crate) struct Scratch {
-    /// The elements of the open arrays, those of an inner one above those of the outer.
+    /// A stack of the elements of the open arrays, the innermost array on top.
     pub(crate) values: Vec<IValue>,
-    /// The members of the open objects, those of an inner one above those of the outer.
+    /// A stack of the members of the open objects, the innermost object on top.
     pub(crate) members: Vec<(IString, IValue)>,
     /// The content of a string with an escape.
     pub(crate) content: String,
