@@ -1,4 +1,4 @@
-"""Builds passes over the Rust crate `ijson` from a folder of its sources.
+"""Builds the programs of baseline/ over the Rust crate `ijson` from a folder of its sources.
 
 A file of the folder is named by its path, as src--src--value--mod.rs.txt. A body that is left out there panics. Such a body works on a number of
 more than 56 bits or 7 fraction digits, so a file with one cannot be read; it is left out, and named under the tables. Objects lose their order, so they
@@ -8,10 +8,11 @@ uses. bench/blocks --program bench/out/passes_of_original counts its memory.
 
 import pathlib
 import re
-import tempfile
 
 import peers
+from tables import ORIGINAL
 
+CRATE = peers.KEPT / "original"
 MANIFEST = """[package]
 name = "ijson"
 version = "0.1.7"
@@ -28,6 +29,13 @@ lazy_static = "1"
 serde = "1"
 serde_json = "1"
 """
+# What differs in the programs from those over serde_json.
+DIFFERENT = {
+    "use serde_json::Value;": "use ijson::IValue as Value;",
+    "Value::as_str": "|value| value.as_string().map(|text| text.as_str())",
+    # a body that writes fractions is left out
+    'timed("to_json", || written(items("values")));': "",
+}
 LEFT_OUT = re.compile(r"\{ /\* body left out[^*]*\*/ \}")
 # The module on numbers of many words, of which no source is in the folder.
 MANY_WORDS = """pub(crate) const TEN: u64 = 10;
@@ -46,23 +54,41 @@ pub(crate) fn pow5(power: u32) -> u64 {
 """
 
 
-def set_up(sources, crate):
-    """Writes the crate and the program of passes, which is serde_json's over another type of values."""
+def write(name, text):
+    """Writes a file of the crate unless it has this text, since cargo compares times."""
+    path = CRATE / name
+    path.parent.mkdir(parents=True, exist_ok=True)
+    if not path.exists() or path.read_text(encoding="utf-8") != text:
+        path.write_text(text, encoding="utf-8")
+
+
+def set_up(sources):
+    """Writes the crate and its programs, which are serde_json's over another type of values."""
     for source in sources.glob("src--src--*.rs.txt"):
-        path = crate / source.name.removeprefix("src--").removesuffix(".txt").replace("--", "/")
-        path.parent.mkdir(parents=True, exist_ok=True)
-        path.write_text(LEFT_OUT.sub("{ unimplemented!() }", source.read_text(encoding="utf-8")), encoding="utf-8")
-    (crate / "src/value/bigint.rs").write_text(MANY_WORDS)
-    (crate / "Cargo.toml").write_text(MANIFEST)
-    passes = (peers.BENCH / "baseline/src/bin/passes.rs").read_text(encoding="utf-8")
-    (crate / "src/bin").mkdir()
-    (crate / "src/bin/passes.rs").write_text(passes.replace("use serde_json::Value;", "use ijson::IValue as Value;"), encoding="utf-8")
+        name = source.name.removeprefix("src--").removesuffix(".txt").replace("--", "/")
+        write(name, LEFT_OUT.sub("{ unimplemented!() }", source.read_text(encoding="utf-8")))
+    write("src/value/bigint.rs", MANY_WORDS)
+    write("Cargo.toml", MANIFEST)
+    for program in (peers.BENCH / "baseline/src/bin").glob("*.rs"):
+        text = program.read_text(encoding="utf-8")
+        for old, new in DIFFERENT.items():
+            text = text.replace(old, new)
+        write(f"src/bin/{program.name}", text)
 
 
-def passes_of_original(sources):
-    """The program, or None if it could not be built."""
-    with tempfile.TemporaryDirectory() as crate:
-        set_up(pathlib.Path(sources), pathlib.Path(crate))
-        # the sources have no comments, which their lints ask for
-        lints = "build.rustflags=['--cap-lints', 'allow']"
-        return peers.cargo_program("passes", pathlib.Path(crate), "the Rust crate ijson", "passes_of_original", "--config", lints)
+def add_option(parser):
+    parser.add_argument("--original", metavar="FOLDER", help="time the Rust crate ijson in the same turns, from the sources in a folder")
+
+
+def programs(name, sources):
+    """The program by its name in the tables, if a folder has the sources and it could be built."""
+    if not sources:
+        return {}
+    set_up(pathlib.Path(sources))
+    program = peers.cargo_program(name, CRATE, "the Rust crate ijson", f"{name}_of_original")
+    return {ORIGINAL: program} if program else {}
+
+
+def passes(sources):
+    """Like `programs`, for passes. Objects do not always keep their order."""
+    return {name: peers.Library(program, False, "digits") for name, program in programs("passes", sources).items()}

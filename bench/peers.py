@@ -18,9 +18,8 @@ from assemble import copy_crates, library_crates
 
 CRATES = BENCH.parent / "crates"
 KEPT = BENCH / "out"
-REGISTRY = "/usr/share/cargo/registry"
 # Debian's packages of the peers.
-PACKAGES = ["librust-serde-json-dev", "rapidjson-dev", "libsimdjson-dev"]
+PACKAGES = ["librust-serde-json-dev", "librust-dashmap-dev", "librust-indexmap-dev", "librust-lazy-static-dev", "rapidjson-dev", "libsimdjson-dev", "jq"]
 
 
 class Library(NamedTuple):
@@ -105,8 +104,7 @@ def calls_of_kit():
 
 def cargo_program(name, folder, title, kept, *flags):
     """A program of a Rust crate over Debian's packages, kept under another name, since cargo's build of other features has the same."""
-    command = ["cargo", "build", "--quiet", "--release", "--offline", "--bin", name, "--target-dir", KEPT / "target", *flags]
-    command += ["--config", 'source.crates-io.replace-with="debian"', "--config", f'source.debian.directory="{REGISTRY}"']
+    command = ["cargo", "build", "--quiet", "--release", "--offline", "--config", BENCH / "cargo.toml", "--target-dir", KEPT / "target", "--bin", name, *flags]
     if not built(command, folder, title):
         return None
     shutil.copy(KEPT / "target/release" / name, KEPT / kept)

@@ -3,7 +3,7 @@
 import statistics
 from operator import itemgetter
 
-from tables import OURS, head, row
+from tables import OURS, head, marked, named, row
 
 # Figures from the times of a pass. Some programs do not time cloning.
 ACTS = {
@@ -21,8 +21,8 @@ def times_of(act, by_library):
     return {name: list(map(ACTS[act], it)) for name, it in by_library.items() if act != "cloning" or len(it[0]) > 3}
 
 
-def shown_speed(size, nanoseconds):
-    return f"{size * 1000 / nanoseconds:.0f}" if size * 1000 < nanoseconds * 100_000 else "> 99999"
+def shown_speed(size, nanoseconds, ours):
+    return marked(f"{size * 1000 / nanoseconds:.0f}" if size * 1000 < nanoseconds * 100_000 else "> 99999", nanoseconds / ours)
 
 
 def speed_table(act, passes, sizes, libraries):
@@ -30,7 +30,7 @@ def speed_table(act, passes, sizes, libraries):
     lines = [head(f"{act}, MB/s, {' / '.join(FIGURES)}", *libraries)]
     for file, by_library in passes.items():
         size, times = sizes[file], times_of(act, by_library)
-        cells = (" / ".join(shown_speed(size, figure(times[name])) for figure in FIGURES.values()) if name in times else "-" for name in libraries)
+        cells = (" / ".join(shown_speed(size, figure(times[name]), figure(times[OURS])) for figure in FIGURES.values()) if name in times else "-" for name in libraries)
         lines.append(row(f"{file}, {size / 1e6:.1f} MB", *cells))
     return "\n".join(lines)
 
@@ -53,7 +53,7 @@ def mean(file_ratios, name):
 def shown_ratio(ratio):
     if ratio is None:
         return "-"
-    return f"{ratio:.2f}" if ratio >= 0.005 else "< 0.01"
+    return marked(f"{ratio:.2f}" if ratio >= 0.005 else "< 0.01", ratio)
 
 
 def mean_table(passes, libraries):
@@ -62,5 +62,5 @@ def mean_table(passes, libraries):
     by_act = {act: [ratios(passes, act, figure) for figure in FIGURES] for act in ACTS}
     for name, library in libraries.items():
         cells = (" / ".join(shown_ratio(mean(it, name)) for it in both_figures) for both_figures in by_act.values())
-        lines.append(row(name, "kept" if library.order else "lost", library.numbers, *cells))
+        lines.append(row(named(name, passes), "kept" if library.order else "lost", library.numbers, *cells))
     return "\n".join(lines)

@@ -1,15 +1,15 @@
-"""Tables of bench/run, bench/calls and bench/in_process. A number in brackets is the ratio to ijson: above 1, ijson takes less."""
+"""Tables of the benchmarks. A number in brackets is the ratio to ijson: above 1, ijson takes less. A figure is bold if ijson takes more."""
 
 import datetime
 import statistics
 
 from measure import FIGURES
-from peers import compilers, kit_version
+from peers import compilers, kit_version, package_versions
 
 OURS = "ijson"
 EARLIER = "earlier build"
 ORIGINAL = "Rust crate ijson"
-BETTER = "better peer"
+BEST = "best peer"
 
 
 def print_conditions(turns, passes=None):
@@ -17,7 +17,7 @@ def print_conditions(turns, passes=None):
     with open("/proc/cpuinfo", encoding="utf-8") as lines:
         models = [line.partition(":")[2].strip() for line in lines if line.startswith("model name")]
     print(f"{datetime.date.today()}, {kit_version()}, {len(models)} processors {models[0]}, {turns} turns" + (f" of {passes} passes." if passes else "."))
-    print(compilers(), end="\n\n", flush=True)
+    print(compilers(), package_versions(), sep="\n", end="\n\n", flush=True)
 
 
 def row(*cells):
@@ -28,15 +28,24 @@ def head(*cells):
     return row(*cells) + "\n" + "|" + "---|" * len(cells)
 
 
+def marked(words, ratio):
+    """The words, bold if the ratio is below 1."""
+    return f"**{words}**" if round(ratio, 2) < 1 else words
+
+
+def with_ratio(words, ratio):
+    return marked(f"{words} ({ratio:.2f})", ratio)
+
+
 def shown(figure, value):
     return f"{value:.1f} MB" if figure.startswith("memory") else f"{value:.3f} s"
 
 
 def ratios(figures, peers):
-    """The figures of each other program, and of the better peer (for each figure by itself), divided by ours."""
+    """The figures of each other program, and of the best peer (for each figure by itself), divided by ours."""
     others = {name: it for name, it in figures.items() if name != OURS}
     if peers:
-        others[BETTER] = {figure: min(figures[name][figure] for name in peers) for figure in FIGURES}
+        others[BEST] = {figure: min(figures[name][figure] for name in peers if name in figures) for figure in FIGURES}
     return {name: {figure: it[figure] / figures[OURS][figure] for figure in FIGURES} for name, it in others.items()}
 
 
@@ -45,21 +54,26 @@ def file_table(title, figures, file_ratios):
     for name, it in figures.items():
         cells = [shown(figure, it[figure]) for figure in FIGURES]
         if name != OURS:
-            cells = [f"{cell} ({file_ratios[name][figure]:.2f})" for cell, figure in zip(cells, FIGURES)]
+            cells = [with_ratio(cell, file_ratios[name][figure]) for cell, figure in zip(cells, FIGURES)]
         lines.append(row(name, *cells))
     return "\n".join(lines)
 
 
+def named(name, by_file):
+    """The name of a program, and how many of the files it reads if not all."""
+    count = sum(name in it for it in by_file.values())
+    return name if count == len(by_file) else f"{name} ({count} of {len(by_file)} files)"
+
+
 def ratio_table(all_ratios):
-    """The ratios against the better peer, one row per file, and the geometric means against each program. `all_ratios` is by the file's name."""
-    lines = [head(f"Against the {BETTER}", *FIGURES)]
-    names = list(next(iter(all_ratios.values())))
-    if BETTER in names:
-        for file, it in all_ratios.items():
-            lines.append(row(file, *(f"{it[BETTER][figure]:.2f}" for figure in FIGURES)))
-    for name in names:
-        means = (statistics.geometric_mean(it[name][figure] for it in all_ratios.values()) for figure in FIGURES)
-        lines.append(row(f"**geometric mean, {name}**", *(f"**{mean:.2f}**" for mean in means)))
+    """The ratios against the best peer, one row per file, and the geometric means against each program. `all_ratios` is by the file's name."""
+    lines = [head(f"Against the {BEST}", *FIGURES)]
+    for file, it in all_ratios.items():
+        if BEST in it:
+            lines.append(row(file, *(marked(f"{it[BEST][figure]:.2f}", it[BEST][figure]) for figure in FIGURES)))
+    for name in dict.fromkeys(name for it in all_ratios.values() for name in it):
+        means = [statistics.geometric_mean([it[name][figure] for it in all_ratios.values() if name in it]) for figure in FIGURES]
+        lines.append(row("geometric mean, " + named(name, all_ratios), *(marked(f"{it:.2f}", it) for it in means)))
     return "\n".join(lines)
 
 
