@@ -1,7 +1,7 @@
 /* Counts the allocations of a program between its first two readings of the clock.
  *
  * Loaded before the C library (LD_PRELOAD), it writes to the file in BLOCKS the numbers of allocations, reallocations and frees in that time,
- * and the growth of live bytes. Bytes are as malloc rounds them, with its word before each block. */
+ * the growth of live bytes, and the most by which they had grown. Bytes are as malloc rounds them, with its word before each block. */
 #define _GNU_SOURCE
 #include <dlfcn.h>
 #include <malloc.h>
@@ -10,7 +10,7 @@
 #include <time.h>
 
 static int looks;
-static long asked, resized, given_back, bytes;
+static long asked, resized, given_back, bytes, most;
 static void *(*next_malloc)(size_t);
 static void *(*next_realloc)(void *, size_t);
 static void (*next_free)(void *);
@@ -25,6 +25,11 @@ __attribute__((constructor)) static void begin(void) {
 
 static int counts(void) { return looks == 1; }
 
+static void grow(long more) {
+    bytes += more;
+    if (bytes > most) most = bytes;
+}
+
 static long taken(void *block) { return block ? (long)(malloc_usable_size(block) + sizeof(size_t)) : 0; }
 
 void *malloc(size_t size) {
@@ -32,7 +37,7 @@ void *malloc(size_t size) {
     void *granted = next_malloc(size);
     if (counts() && granted) {
         asked++;
-        bytes += taken(granted);
+        grow(taken(granted));
     }
     return granted;
 }
@@ -44,7 +49,7 @@ void *realloc(void *block, size_t size) {
     if (counts() && granted) {
         if (block) resized++;
         else asked++;
-        bytes += taken(granted) - before;
+        grow(taken(granted) - before);
     }
     return granted;
 }
@@ -68,6 +73,6 @@ __attribute__((destructor)) static void end(void) {
     const char *name = getenv("BLOCKS");
     FILE *file = name ? fopen(name, "w") : NULL;
     if (!file) return;
-    fprintf(file, "%ld %ld %ld %ld\n", asked, resized, given_back, bytes);
+    fprintf(file, "%ld %ld %ld %ld %ld\n", asked, resized, given_back, bytes, most);
     fclose(file);
 }

@@ -76,6 +76,11 @@ def array_of(item):
     return make
 
 
+def repeated(item):
+    """What makes an array of one item again and again, without white space."""
+    return lambda rng, size: "[" + ",".join([item] * (size // (len(item) + 1))) + "]\n"
+
+
 def nested(rng, depth):
     if depth == 0 or rng.randrange(8) == 0:
         return rng.choice(["null", "true", "false", "7", "[]"])
@@ -151,6 +156,11 @@ FILES = {
     "coordinates": coordinates,
     "catalogue": catalogue,
     "messages": messages,
+    "zeros": repeated("0"),
+    "empty_arrays": repeated("[]"),
+    "small_objects": repeated('{"":0}'),
+    "deep_objects": repeated('{"":' * 126 + "0" + "}" * 126),
+    "deep_arrays": repeated("[" * 126 + "0" + "]" * 126),
 }
 
 

@@ -14,6 +14,8 @@ COMMON_FILES = ["coordinates", "catalogue", "messages"]
 MORE_FILES = ["numbers", "arrays", "long_keys"]
 # One kind of value each, whose cost the other files hide.
 NARROW_FILES = ["probabilities", "identifiers", "points"]
+# Those that take much memory for a byte of text.
+WORST_FILES = ["zeros", "empty_arrays", "small_objects", "deep_objects", "deep_arrays"]
 
 
 class Run(NamedTuple):

@@ -1,6 +1,7 @@
 """Runs the programs that time passes within one process, and ends the benchmark if one of them writes a wrong text."""
 
 import hashlib
+import os
 import pathlib
 import subprocess
 import sys
@@ -10,11 +11,12 @@ from measure import in_turns
 BENCH = pathlib.Path(__file__).resolve().parent
 
 
-def run_once(name, library, path, count, written):
+def run_once(name, library, path, count, written, **settings):
     """The nanoseconds of each act in each pass, or None if a body of the library is left out that the file needs. Writes the last text to the
-    file `written`."""
+    file `written`. `settings` are added to the environment."""
     with open(path, "rb") as text, open(written, "wb") as output:
-        done = subprocess.run([library.program, str(count)], stdin=text, stdout=output, stderr=subprocess.PIPE, text=True)
+        command = [library.program, str(count)]
+        done = subprocess.run(command, stdin=text, stdout=output, stderr=subprocess.PIPE, text=True, env=os.environ | settings)
     if "not implemented" in done.stderr:
         return None
     if done.returncode:
