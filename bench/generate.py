@@ -27,6 +27,10 @@ import random
 from common_kinds import catalogue, coordinates, messages
 
 
+# Bytes of an array up to which items are made; a longer one repeats them.
+MOST = 10_000_000
+
+
 def number(rng):
     kind = rng.randrange(4)
     if kind == 0:
@@ -68,10 +72,10 @@ def array_of(item):
 
     def make(rng, size):
         parts, total = [], 2
-        while total < size:
+        while total < min(size, MOST):
             parts.append(item(rng))
             total += len(parts[-1].encode()) + 2
-        return "[" + ", ".join(parts) + "]\n"
+        return "[" + ", ".join([", ".join(parts)] * max(size // MOST, 1)) + "]\n"
 
     return make
 

@@ -77,9 +77,12 @@ def ratio_table(all_ratios):
     return "\n".join(lines)
 
 
-def growth_table(nanoseconds):
-    """`nanoseconds` per byte, by the file's name and then by the size."""
-    lines = [head("Processor time, ns per byte", *next(iter(nanoseconds.values())))]
-    for file, it in nanoseconds.items():
-        lines.append(row(file, *(f"{value:.1f}" for value in it.values())))
-    return "\n".join(lines)
+def growth_cell(figures, size):
+    seconds = figures["processor, min"]
+    return f"{seconds * 1e3:.1f} ms, {seconds / size * 1e9:.1f} ns, {figures['memory, max']:.0f} MB"
+
+
+def growth_table(cells):
+    """`cells` by the file's name and then by the size."""
+    lines = [head("Processor time, time per byte, memory", *next(iter(cells.values())))]
+    return "\n".join(lines + [row(file, *it.values()) for file, it in cells.items()])
