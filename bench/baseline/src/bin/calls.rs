@@ -24,6 +24,11 @@ fn written(values: &[Value]) -> usize {
     values.iter().map(|value| serde_json::to_string(black_box(value)).unwrap().len()).sum()
 }
 
+fn read(texts: &[Value]) -> usize {
+    let value = |text: &str| serde_json::from_str::<Value>(black_box(text)).unwrap();
+    texts.iter().filter_map(Value::as_str).filter(|text| value(text).as_object().unwrap().contains_key("id")).count()
+}
+
 fn timed(name: &str, calls: impl FnOnce() -> usize) {
     let start = Instant::now();
     let given = calls();
@@ -43,6 +48,11 @@ fn main() -> Result<(), Box<dyn std::error::Error>> {
         timed("equality", || equal(items("values"), again["values"].as_array().unwrap()));
         timed("clone", || copied(items("values")));
         timed("to_json", || written(items("values")));
+        for size in ["200", "2000"] {
+            let texts = items(&format!("texts of {size}"));
+            timed(&format!("new-cache/{size}"), || read(texts));
+            timed(&format!("warm-cache/{size}"), || read(texts));
+        }
     }
     Ok(())
 }
