@@ -1,9 +1,8 @@
 """Builds the programs of baseline/ over the Rust crate `ijson` from a folder of its sources.
 
-A file of the folder is named by its path, as src--src--value--mod.rs.txt. A body that is left out there panics. Such a body works on a number of
-more than 56 bits or 7 fraction digits, so a file with one cannot be read; it is left out, and named under the tables. Objects lose their order, so they
-are not compared. Debian's packages librust-serde-json-dev, librust-dashmap-dev, librust-indexmap-dev and librust-lazy-static-dev have what the crate
-uses. bench/blocks --program bench/out/passes_of_original counts its memory.
+A file of the folder is named by its path, as src--src--value--mod.rs.txt. A body that is left out there panics. Such bodies work on numbers that are not
+integers of 64 bits, so a file with such a number is left out, and named under the tables. Objects lose their order, so they are compared as maps.
+Debian's packages librust-serde-json-dev, librust-dashmap-dev, librust-indexmap-dev and librust-lazy-static-dev have what the crate uses.
 """
 
 import pathlib
