@@ -5,6 +5,7 @@ from __future__ import annotations
 import argparse
 import contextlib
 import functools
+import importlib
 import os
 import secrets
 import sys
@@ -52,7 +53,7 @@ def opened(name: str) -> contextlib.AbstractContextManager[BinaryIO]:
 def progress(names: Iterable[str], shown: bool) -> Iterator[Callable[[int], object]]:
     """A call that counts bytes: on a bar, if standard error is a terminal and tqdm is installed."""
     try:
-        from tqdm import tqdm  # type: ignore[import]
+        tqdm = importlib.import_module("tqdm").tqdm
     except ImportError:
         shown = False
     if not (shown and sys.stderr.isatty()):
