@@ -14,7 +14,7 @@ from typing import NamedTuple
 BENCH = pathlib.Path(__file__).resolve().parent
 sys.path.append(str(BENCH.parent / "tools"))
 
-from assemble import copy_crates, library_crates
+from callers import copy_crates, library_crates
 
 CRATES = BENCH.parent / "crates"
 KEPT = BENCH / "out"

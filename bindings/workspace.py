@@ -19,7 +19,7 @@ BINDINGS = pathlib.Path(__file__).resolve().parent
 TOP = BINDINGS.parent
 sys.path.append(str(TOP / "tools"))
 
-from assemble import copy_crates, library_crates
+from callers import copy_crates, library_crates
 
 OUT = BINDINGS / "out"
 KIT = pathlib.Path(subprocess.run(["rt", "doc"], capture_output=True, text=True, check=True).stdout.strip()).parent
