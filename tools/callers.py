@@ -17,18 +17,14 @@ import sys
 
 from sources import BLOCKS, CRATES, TOP
 
-NAMED = re.compile(r"\b(ijson[a-z_]*)(?:::|\.(?:specs|proofs))")
 GUIDE = TOP / "docs/guide.md"
 
 
 def library_crates(*names):
     """The lines of crates.txt for crates of the library and all that they depend on, by name. Other names are left out."""
-    wanted, found = list(names), {}
-    while wanted:
-        name = wanted.pop()
-        if name in CRATES and name not in found:
-            found[name] = f"{name}:{CRATES[name]}"
-            wanted += CRATES[name].split()
+    found = {name: f"{name}:{CRATES[name]}" for name in names if name in CRATES}
+    for name in list(found):
+        found |= library_crates(*CRATES[name].split())
     return found
 
 
@@ -44,19 +40,14 @@ def copy_crates(work, crates, line):
     (work / "HANDLES").write_text("Handles allowed: none.\n")
 
 
-def module_of(page):
-    """The module of a page's callers."""
-    return f"calls_{page.parent.name}" if page.name == "CALLING.md" else page.stem.lower()
-
-
 def write_pages(work):
     """Writes the files that the pages have, and the module of each page."""
-    pages = [*sorted(TOP.glob("crates/*/CALLING.md")), GUIDE, TOP / "README.md"]
-    files = {"crates/callers/src/lib.rt": ["//! The callers of the pages.\n#![tactic(auto)]\n", *(f"pub mod {module_of(page)};" for page in pages), ""]}
-    for page in pages:
+    modules = {page: f"calls_{page.parent.name}" for page in sorted(TOP.glob("crates/*/CALLING.md"))} | {GUIDE: "guide", TOP / "README.md": "readme"}
+    files = {"crates/callers/src/lib.rt": ["//! The callers of the pages.\n#![tactic(auto)]\n", *(f"pub mod {module};" for module in modules.values()), ""]}
+    for page, module in modules.items():
         for file, language, text in BLOCKS.findall(page.read_text()):
             if file or language == "rust":
-                files.setdefault(file or f"crates/callers/src/{module_of(page)}.rt", []).append(text)
+                files.setdefault(file or f"crates/callers/src/{module}.rt", []).append(text)
     for file, texts in files.items():
         (work / file).parent.mkdir(parents=True, exist_ok=True)
         (work / file).write_text("\n".join(texts))
@@ -72,7 +63,8 @@ def list_crates(work):
             lines += f"{crate.name}:{CRATES[crate.name]}\n"
     for crate in "callers", "nesting":
         text = "\n".join(path.read_text() for path in sorted((work / "crates" / crate).rglob("*")) if path.is_file())
-        lines += f"{crate}: {' '.join(sorted(set(NAMED.findall(text))))}\n"
+        named = set(re.findall(r"\b(ijson[a-z_]*)(?:::|\.(?:specs|proofs))", text))
+        lines += f"{crate}: {' '.join(sorted(named))}\n"
     (work / "crates.txt").write_text(lines)
 
 
@@ -82,8 +74,11 @@ def main():
     subprocess.run(["bash", "-euo", "pipefail", "-c", first], cwd=work, env={**os.environ, "IJSON": str(TOP)}, check=True)
     for file, texts in write_pages(work).items():
         crate, _, *module = pathlib.Path(file).with_suffix("").parts[1:]
-        calls = re.findall(r"^pub fn (\w+)", "\n".join(texts), re.M) if file.endswith(".rt") else []
-        print(*("::".join([crate, *(part for part in module if part != "lib"), call]) for call in calls), sep="\n", end="\n" * bool(calls))
+        calls = re.findall(r"^pub fn (\w+)", "\n".join(texts), re.M)
+        if file.endswith(".rt") and not calls and crate + module[0] != "callerslib":
+            sys.exit(f"{file}: no caller")
+        for call in calls:
+            print("::".join([crate, *(part for part in module if part != "lib"), call]))
     list_crates(work)
 
 

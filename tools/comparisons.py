@@ -1,65 +1,46 @@
 """What tools/pages compares besides the pages that it makes. Each function returns how many cases hold, and what is amiss."""
 
 import fnmatch
-import functools
 import re
+from collections import Counter
 
 from sources import BLOCKS, CODE, CRATES, TOP, TYPES, items, items_in, says_nothing
 
 CLAIMS = "docs/reference/claims.md"
-SECTION = re.compile(r"^## `(\w+)`$", re.M)
-CLAIM = re.compile(r"^- .*(?:\n  .*)*", re.M)
 # Traits of std whose calls have no clause here: std specifies `len`, and tests show `Debug`.
 WITHOUT = ("ExactSizeIterator for ", "fmt::Debug for ")
 LINK = re.compile(r"!?\[(?:[^\[\]]|\[[^\[\]]*\])*\]\(([^)\s]+)\)")
-CITED = re.compile(r"Rattle\.(ijson\w*)\.((?:\w+\.)*\w+)\.\{([^}]*)\}")
 MODULES = re.compile(r"Each module uses only those before it: ((?:`[\w:]+`,? ?)+)\.")
-USED = re.compile(r"\b(crate|super(?:::super)*)::(\w+(?:::\w+)*)")
 
 
 def carriers():
     """(crate, patterns of calls, names of clauses) of each group of carriers of a claim."""
-    _, *parts = SECTION.split((TOP / CLAIMS).read_text())
+    _, *parts = re.split(r"^## `(\w+)`$", (TOP / CLAIMS).read_text(), flags=re.M)
     for crate, section in zip(parts[::2], parts[1::2]):
-        for item in CLAIM.findall(section):
+        for item in re.findall(r"^- .*(?:\n  .*)*", section, re.M):
             for group in item.partition("→")[2].split(";"):
                 calls, _, named = group.partition("`: ")
                 yield crate, CODE.findall(calls + "`" * bool(named)), CODE.findall(named)
 
 
-def promising():
-    """The public calls, the ghost members of implementations for public types, and the functions of each program other than `main`."""
-    types = {(item.crate, item.name) for item in items(*TYPES)}
-    yield from (item for item in items("fn", "ghost") if item.kind == "fn" or (item.crate, item.owner) in types)
-    for path in sorted(TOP.glob("crates/*/src/main.rt")):
-        names = set(re.findall(r"^fn (\w+)", path.read_text(), re.M)) - {"main"}
-        yield from (item for item in items_in(path.parts[-3], path, names) if item.kind == "fn")
-
-
-def place(call):
-    return f"{call.path_name}{f' of `{call.header}`' if call.header else ''} ({call.path.relative_to(TOP)})"
-
-
-def without_promise(call):
-    """What is amiss with the clauses of a call itself."""
-    if all(says_nothing(text) for _, _, text in call.contract) and not call.header.startswith(WITHOUT):
-        yield f"{place(call)} has no clause that states its result"
-    for kind, name, text in call.contract:
-        if kind != "ghost" and says_nothing(text):
-            yield f"the clause `{kind}{' ' * bool(name)}{name}` of {place(call)} holds of everything"
-
-
 def claims():
     """Compares docs/reference/claims.md with the public calls of the crates.
 
-    An item of the list is a claim, an arrow and what carries the claim: calls, and after a colon their clauses; semicolons separate groups. A heading
-    names the crate. Each call (`Type::call`, `Type::*`, or `call` for a function) exists and has the clauses that the item names. Each public function,
-    each function of a program, and each trait that is implemented by hand for a public type, is named by an item of its crate: by one of its calls or by
-    one of its ghost members. Each public call has a clause: an `ensures` of its own or of its trait, or a ghost member of its implementation. The calls
-    of `WITHOUT` need none. No clause holds of everything.
+    An item of the list is a claim, an arrow and what carries the claim: calls, and after a colon their clauses; semicolons separate groups. A heading names
+    the crate. Each call (`Type::call`, `Type::*`, or `call` for a function) exists and has these clauses. Each public function, each function of a program,
+    and each trait that is implemented by hand for a public type, is named by an item of its crate: by one of its calls or ghost members. Each public call
+    but those of `WITHOUT` has a clause: an `ensures` of its own or of its trait, or a ghost member of its implementation. No clause holds of everything.
     """
-    all_calls = list(promising())
-    amiss, claimed = [text for call in all_calls if call.kind == "fn" for text in without_promise(call)], set()
+    types, amiss, claimed = {(item.crate, item.name) for item in items(*TYPES)}, [], set()
+    all_calls = [item for item in items("fn", "ghost") if item.kind == "fn" or (item.crate, item.owner) in types]
+    for path in sorted(TOP.glob("crates/*/src/main.rt")):
+        names = set(re.findall(r"^fn (\w+)", path.read_text(), re.M)) - {"main"}
+        all_calls += [item for item in items_in(path.parts[-3], path, names) if item.kind == "fn"]
+    for call in (call for call in all_calls if call.kind == "fn"):
+        empty = [(kind, name) for kind, name, text in call.contract if says_nothing(text)]
+        if len(empty) == len(call.contract) and not call.header.startswith(WITHOUT):
+            amiss.append(f"no clause states the result of {call.place}")
+        amiss += [f"the clause `{kind} {name}` of {call.place} holds of everything" for kind, name in empty if kind != "ghost"]
     for crate, patterns, named in carriers():
         for pattern in patterns:
             found = [call for call in all_calls if call.crate == crate and fnmatch.fnmatchcase(call.path_name, pattern)]
@@ -67,18 +48,16 @@ def claims():
             amiss += [] if found else [f"{CLAIMS} names `{pattern}` of {crate}, which does not exist"]
             for call in (call for call in found if call.kind == "fn"):
                 missing = set(named) - {name for _, name, _ in call.contract}
-                amiss += [f"{CLAIMS} names the clause `{clause}` of {place(call)}, which does not exist" for clause in sorted(missing)]
+                amiss += [f"{CLAIMS} names the clause `{clause}` of {call.place}, which does not exist" for clause in sorted(missing)]
     unclaimed = {call.group: call for call in all_calls if call.group not in claimed}
     return len(claimed), amiss + [f"{CLAIMS} names no claim for {call.header or call.path_name} of {call.crate}" for call in unclaimed.values()]
 
 
-@functools.lru_cache(None)
 def prose(path):
     """A page without its blocks of code."""
     return re.sub(r"^```.*?^```$", "", path.read_text(), flags=re.M | re.S)
 
 
-@functools.lru_cache(None)
 def anchors(path):
     """The anchors of a page's headings, as GitHub makes them."""
     headings = [re.sub(r"\[([^\]]*)\]\([^)]*\)", r"\1", heading) for heading in re.findall(r"^#+ (.*)$", prose(path), re.M)]
@@ -90,9 +69,7 @@ def is_dead(page, target):
     """Whether a link of a page leads to no file of the repository, or to no heading of one."""
     file, _, anchor = target.partition("#")
     path = (page.parent / file).resolve() if file else page
-    if not path.exists() or not path.is_relative_to(TOP):
-        return True
-    return bool(anchor) and (path.suffix != ".md" or anchor not in anchors(path))
+    return not path.exists() or not path.is_relative_to(TOP) or bool(anchor) and (path.suffix != ".md" or anchor not in anchors(path))
 
 
 def links():
@@ -102,9 +79,8 @@ def links():
     found = [(page, target) for page in pages for target in LINK.findall(prose(page)) if not re.match(r"[a-z]+:", target)]
     amiss = [f"{page.relative_to(TOP)}: dead link: {target}" for page, target in found if is_dead(page, target)]
     held = len(found) - len(amiss)
-    for name in "README.md", "CONTRIBUTING.md":
-        if not any(page == TOP / name and target.partition("#")[0] == "docs/DECISIONS.md" for page, target in found):
-            amiss.append(f"{name} does not link docs/DECISIONS.md")
+    linking = {page.name for page, target in found if page.parent == TOP and target.partition("#")[0] == "docs/DECISIONS.md"}
+    amiss += [f"{name} does not link docs/DECISIONS.md" for name in ("README.md", "CONTRIBUTING.md") if name not in linking]
     return held, amiss + [f"README.md names {name} without a link" for name in re.findall(r"[\w./-]+\.md\b", LINK.sub("", prose(TOP / "README.md")))]
 
 
@@ -136,16 +112,16 @@ def citations():
         text, name = page.read_text(), page.relative_to(TOP)
         lemmas = (it for file, language, block in BLOCKS.findall(text) if language == "antt" and not file for it in statements(block))
         checks += [(f"{name}: {lemma[0]}", lemma in declared) for lemma in lemmas]
-        for crate, module, names in CITED.findall(text):
+        for crate, module, names in re.findall(r"Rattle\.(ijson\w*)\.((?:\w+\.)*\w+)\.\{([^}]*)\}", text):
             checks += [(f"{name}: {module}.{cited.strip()}", is_declared(crate, module, cited.strip())) for cited in names.split(",")]
-    libraries = [path.parents[1] for path in sorted(TOP.glob("crates/*/src/lib.rt"))]
-    amiss = [f"not in the sources: {name}" for name, holds in checks if not holds]
-    return len(checks) - len(amiss), amiss + [f"{crate.name} has no CALLING.md" for crate in libraries if not (crate / "CALLING.md").exists()]
+    libraries = [(f"{root.parts[-3]}: CALLING.md", (root.parents[1] / "CALLING.md").exists()) for root in TOP.glob("crates/*/src/lib.rt")]
+    amiss = [f"not in the sources: {name}" for name, holds in checks + libraries if not holds]
+    return len(checks + libraries) - len(amiss), amiss
 
 
 def used_modules(module, text, modules):
     """The other modules that the text of a module names by a path."""
-    for start, path in USED.findall(re.sub(r"//.*", "", text)):
+    for start, path in re.findall(r"\b(crate|super(?:::super)*)::(\w+(?:::\w+)*)", re.sub(r"//.*", "", text)):
         above = [] if start == "crate" else module.split("::")[:-len(start.split("::"))]
         parts = [*above, *path.split("::")]
         prefixes = ["::".join(parts[:count]) for count in range(len(parts), 0, -1)]
@@ -154,36 +130,26 @@ def used_modules(module, text, modules):
             yield named
 
 
-def unused_libraries():
-    """What is amiss with the libraries that crates.txt lists: the crate does not name one."""
-    for crate, listed in CRATES.items():
-        files = [path for path in TOP.glob(f"crates/{crate}/*/**/*.*t*") if path.suffix in (".rt", ".antt") and "out" not in path.parts]
-        code = "\n".join(re.sub(r"(//|-- ).*", "", path.read_text()) for path in files)
-        yield from (f"crates.txt: {crate} does not use {name}" for name in listed.split() if not re.search(rf"\b{name}::|\bRattle\.{name}\.", code))
-
-
-def in_order(crate, order, texts):
-    """(what, whether it holds) of the order of a crate's modules, and of each use."""
-    # a file of `mod` items alone uses nothing
-    needed = {name for name, text in texts.items() if re.search(r"^\s*(?:use|pub fn|fn|pub struct) ", text, re.M)}
-    yield from ((f"{crate}: {name} is not in the order", False) for name in sorted(needed - set(order)))
-    yield from ((f"{crate}: the order names {name}, which is no module", False) for name in order if name not in texts)
-    yield from ((f"{crate}: the order names {name} twice", False) for name in set(order) if order.count(name) > 1)
-    for at, module in enumerate(order):
-        for used in sorted(set(used_modules(module, texts.get(module, ""), texts))):
-            yield f"{crate}: {module} uses {used}, which is not before it", used in order[:at]
-
-
 def modules():
     """Checks that each module of a crate uses only those before it, if the first comment of `src/lib.rt` states an order: "Each module uses only those
     before it:" and the modules, each file of the crate once. Each crate uses the libraries that crates.txt lists for it: its sources, with its tests,
     definitions and proofs, name them."""
-    checks = []
+    held, amiss = 0, []
+    for crate, libraries in CRATES.items():
+        files = [path for folder in ("src", "specs", "proofs") for path in TOP.glob(f"crates/{crate}/{folder}/**/*.*t")]
+        code = re.sub(r"(//|-- ).*", "", "\n".join(path.read_text() for path in files))
+        unused = [name for name in libraries.split() if not re.search(rf"\b{name}::|\bRattle\.{name}\.", code)]
+        amiss += [f"crates.txt: {crate} does not use {name}" for name in unused]
     for root in sorted(TOP.glob("crates/*/src/lib.rt")):
-        found = MODULES.search(" ".join(line[3:].strip() for line in root.read_text().splitlines() if line.startswith("//!")))
+        found, crate = MODULES.search(" ".join(re.findall(r"^//! ?(.*)", root.read_text(), re.M))), root.parts[-3]
         if found:
-            files = {"::".join(path.relative_to(root.parent).with_suffix("").parts): path for path in root.parent.rglob("*.rt") if path != root}
-            texts = {name: path.read_text() for name, path in files.items()}
-            checks += in_order(root.parts[-3], re.findall(r"[\w:]+", found[1]), texts)
-    held = sum(holds for _, holds in checks)
-    return held, [what for what, holds in checks if not holds] + list(unused_libraries()) + ["no crate states an order"] * (not held)
+            order, files = re.findall(r"[\w:]+", found[1]), [path for path in root.parent.rglob("*.rt") if path != root]
+            texts = {"::".join(path.relative_to(root.parent).with_suffix("").parts): path.read_text() for path in files}
+            # a file of `mod` items alone uses nothing
+            needed = {name for name, text in texts.items() if re.search(r"^\s*(?:use|pub fn|fn|pub struct) ", text, re.M)}
+            amiss += [f"{crate}: {name} is not in the order" for name in sorted(needed - set(order))]
+            amiss += [f"{crate}: the order names {name}, which is no other module" for name in Counter(order) - Counter(texts.keys())]
+            uses = [(at, used) for at, module in enumerate(order) for used in sorted(set(used_modules(module, texts.get(module, ""), texts)))]
+            wrong = [f"{crate}: {order[at]} uses {used}, which is not before it" for at, used in uses if used not in order[:at]]
+            held, amiss = held + len(uses) - len(wrong), amiss + wrong
+    return held, amiss + ["no crate states an order"] * (not held)

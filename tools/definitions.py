@@ -9,10 +9,6 @@ NAME = r"([^\s:(){}]+)"
 DECLARED = re.compile(rf"^(?:abbrev |unfoldable |opaque )?pub (?!use )(?:record |data |mod )?{NAME}")
 INSIDE = re.compile(rf"^  (?:abbrev |unfoldable )?pub (?:record |data )?{NAME} ")
 SECTION = re.compile(r"^(## .*`(\w+)`)$", re.M)
-HEADING = re.compile(r"^### \[`(.*?)`\].*$", re.M)
-# The longest formula that the page shows.
-SHORT = 120
-EXAMPLE = re.compile(r"^- `([^` ]+).*\n  Example: (.*)", re.M)
 UNLISTED = re.compile(r"^ *ghost use (Rattle\.ijson_\w+\.specs\.(?:laws|private)[\w.]*)\.\{([^}]*)\};", re.M)
 
 
@@ -36,64 +32,45 @@ def defined(crate="*"):
             yield path
 
 
-def described(path, name, comment):
-    """A name with its comment, or with its formula if that is one short line."""
-    formulas = re.findall(rf"^( *)({re.escape(name)}(?: [^=\n]*)? = .+)\n(\1 +\S)?", path.read_text(), re.M)
-    if not comment and len(formulas) == 1 and len(formulas[0][1]) < SHORT and not formulas[0][2]:
-        return f"- `{formulas[0][1]}`"
-    return f"- `{name}`" + (f": {comment.rstrip('.')}." if comment else "")
-
-
 def section_of(path, text):
-    """The section of a file: its first comment, and its definitions, with the examples that they have in a text."""
-    examples = dict(EXAMPLE.findall(text))
-    head = re.match(r"(?:-- .*\n)*", path.read_text())[0]
-    yield " ".join(line[3:] for line in head.splitlines()) + "\n"
+    """The section of a file: its first comment, and its definitions, each with its comment, or with its formula if that is one line of less than 120
+    characters, and with the example that it has in a text."""
+    examples, source = dict(re.findall(r"^- `([^` ]+).*\n  Example: (.*)", text, re.M)), path.read_text()
+    yield " ".join(line[3:] for line in re.match(r"(?:-- .*\n)*", source)[0].splitlines()) + "\n"
     for name, comment in declared(path).items():
-        yield described(path, name, comment) + (f"\n  Example: {examples[name]}" if name in examples else "")
+        formulas = re.findall(rf"^( *)({re.escape(name)}(?: [^=\n]*)? = .+)\n(\1 +\S)?", source, re.M)
+        is_shown = not comment and len(formulas) == 1 and len(formulas[0][1]) < 120 and not formulas[0][2]
+        line = f"- `{formulas[0][1] if is_shown else name}`" + f": {comment.rstrip('.')}." * bool(comment)
+        yield line + (f"\n  Example: {examples[name]}" if name in examples else "")
 
 
-def page():
-    """The page with all definitions described by the comments in their files. Its order of files and its examples are kept."""
+def described_page():
+    """The page, and its text with all definitions described by the comments in their files. Its order of files and its examples are kept."""
     text = PAGE.read_text()
     crates = {path.relative_to(TOP).parts[1] for path in defined()} - {crate for _, crate in SECTION.findall(text)}
     made, *parts = SECTION.split(text + "".join(f"\n## `{crate}`\n" for crate in sorted(crates)))
     for heading, crate, section in zip(parts[::3], parts[1::3], parts[2::3]):
-        _, *files = HEADING.split(section)
+        _, *files = re.split(r"^### \[`(.*?)`\].*$", section, flags=re.M)
         sections, specs = dict(zip(files[::2], files[1::2])), TOP / "crates" / crate / "specs"
         names = [str(path.relative_to(specs)) for path in defined(crate)]
         made += f"{heading}\n\n"
         for name in sorted(names, key=lambda name: [*sections, name].index(name)):
             made += f"### [`{name}`](../../crates/{crate}/specs/{name})\n\n" + "\n".join(section_of(specs / name, sections.get(name, ""))) + "\n\n"
-    return made.rstrip("\n") + "\n"
+    return PAGE, made.rstrip("\n") + "\n"
 
 
-def citing_unlisted():
-    """(call, name, module) of each unlisted definition that a promise cites."""
+def definitions():
+    """Checks that no promise, which is a clause of a public call or what its implementation of a trait gives, cites a definition of specs/laws or
+    specs/private, and that no file of one crate cites another crate's specs/private."""
+    amiss = set()
     for call in items("fn"):
         source = re.match(r"impl From<(\w+)> for ", call.implementation)
         # a conversion from a private type is no promise to a caller
         if not source or source[1] in exports(TOP / "crates" / call.crate / "src/lib.rt"):
             words = {word for *_, text in call.clauses + call.contract for word in re.findall(r"[^\s(){},.;]+", text)}
             for module, group in UNLISTED.findall("\n".join(call.lines)) if words else ():
-                yield from ((call, name, module) for name in re.findall(r"(\S+)(?:,|$)", group) if name in words)
-
-
-def citing_private():
-    """(file, module) of each citation of another crate's private definitions."""
-    for path in TOP.glob("crates/*/*/**/*.*t*"):
-        _, crate, folder, *_ = path.relative_to(TOP).parts
-        if folder in ("src", "specs", "proofs") and path.suffix in (".rt", ".antt"):
-            cited = re.findall(r"\b(ijson\w*)(?:\.|::)specs(?:\.|::)private(?:\.|::)(\w+)", path.read_text())
-            yield from ((path.relative_to(TOP), f"{owner}.specs.private.{module}") for owner, module in cited if owner != crate)
-
-
-def definitions():
-    """Checks that no promise, which is a clause of a public call or what its implementation of a trait gives, cites a definition of specs/laws or
-    specs/private, and that no file of one crate cites another crate's specs/private."""
-    amiss = [
-        f"docs/reference/definitions.md: lacks `{name}` of {module}, which {call.path_name} cites ({call.path.relative_to(TOP)})"
-        for call, name, module in citing_unlisted()
-    ]
-    amiss += [f"{path} cites {module}, which is private to its crate" for path, module in sorted(set(citing_private()))]
-    return sum(len(declared(path)) for path in defined()), amiss
+                amiss |= {f"{call.place} cites `{name}` of {module}" for name in re.findall(r"(\S+)(?:,|$)", group) if name in words}
+    for path in (path for folder in ("src", "specs", "proofs") for path in TOP.glob(f"crates/*/{folder}/**/*.*t")):
+        cited = re.findall(r"\b(ijson\w*)(?:\.|::)specs(?:\.|::)private(?:\.|::)(\w+)", path.read_text())
+        amiss |= {f"{path.relative_to(TOP)} cites {module}, which is private to {owner}" for owner, module in cited if f"crates/{owner}/" not in str(path)}
+    return sum(len(declared(path)) for path in defined()), sorted(amiss)

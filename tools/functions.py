@@ -8,7 +8,7 @@ import collections
 import functools
 import re
 
-from sources import TOP, TYPES, items, parts_of, sources, split_at
+from sources import TOP, items, parts_of, sources, split_at
 
 LITERALS = re.compile(r'r#".*?"#|"(?:\\.|[^"\\])*"|\'(?:\\.|[^\'\\])\'|//[^\n]*', re.S)
 # A function with a body, and the attributes of a test.
@@ -17,124 +17,94 @@ FUNCTION = re.compile(
     r"(?P<text>.*\}|.*(?:\n(?:(?P=indent)(?: |[){]|where\b).*)?)*?\n(?P=indent)\{?\})$", re.M)
 # Clauses, ghost members, imports and attributes, with the lines that continue them.
 STATED = re.compile(r"^( *)(?:requires|ensures|decreases|invariant|ghost|use|#!?\[(?!test\])).*\n(?:\1 +\S.*\n)*", re.M)
-GENERICS = re.compile(r"::<[^()]*?>(?=::|\()")
-# A word, a macro or a path of two words.
-WORD = re.compile(r"\w+::\w+|\w+!?")
-SELF = re.compile(r"\((?:&(?:'\w+ )?)?(?:mut )?self\b")
-
 # The folders of tests of a crate, if not that of its name.
-FOLDERS = {"ijson_value": {"array", "object", "value"}, "ijson_extra": {"canonical", "merge_patch", "pointer"}, "ijson": {"convert"}}
+FOLDERS = {"ijson_value": ["array", "object", "value"], "ijson_extra": ["canonical", "merge_patch", "pointer"], "ijson": ["convert"]}
 # Calls that tests make by another call, which does nothing else with its arguments.
 BY = {"PairStore::reserve": "run", "ToIValue::to_ivalue": "to_value", "FromIValue::from_ivalue": "from_value"}
-ON_ERROR = re.compile(r"\b(?:IfErr|OnErr|IsErr|Err)\b")
-
 MEMORY = "tools/memory.txt"
-MOST = 10
 # An error for want of memory as a value, no pattern or type, in a line without one as its pattern.
 ERROR = re.compile(r"^(?!.*(?:AllocError|\w+::Memory)\b\)* =>).*(?:AllocError|\w+::Memory)\b(?!\)*\s*(?:=>|\||= |>|\(_\)|if\b))")
-CALL = re.compile(r"(Box::new|\w+)(?:::<[^()]*>)?\(")
-GROWS = set("Box::new allocator clone extend extend_from_slice insert push push_str reserve reserve_exact resize shrink_to_fit to_string".split())
-GROWS.add("with_capacity")
+GROWS = {"Box::new"} | set(
+    "allocator clone extend extend_from_slice insert push push_str reserve reserve_exact resize shrink_to_fit to_string with_capacity".split())
 
-
-class Function:
-    """A function of a file, with the type or the implementation of its block, and its body without comments, literals and clauses."""
-
-    def __init__(self, path, found, before):
-        self.path, self.name, self.is_test, self.indent = path.relative_to(TOP / "crates"), found["name"], bool(found["test"]), len(found["indent"])
-        self.crate, _, *self.folders = self.path.with_suffix("").parts
-        self.body = found["text"]
-        self.owner = re.findall(r"^(?:pub )?(?:impl|trait)\b[^{\n]*", before, re.M)[-1:] if self.indent else []
-
-    @functools.cached_property
-    def words(self):
-        return {part for word in WORD.findall(GENERICS.sub("", self.body)) for part in (word, *word.split("::"))}
+# A function of a file below crates/, with the head of its implementation, if any, and its body without comments, literals and clauses.
+Function = collections.namedtuple("Function", "path owner name is_test indent body")
 
 
 def functions_of(paths):
     """The functions of some files."""
     for path in paths:
         text = STATED.sub("", LITERALS.sub(lambda found: "" if found[0].startswith("//") else '""', path.read_text()))
-        yield from (Function(path, found, text[:found.start()]) for found in FUNCTION.finditer(text))
-
-
-def refusal(call):
-    """The error type of a call: the last part of its `Result`, or None if it returns no `Result`."""
-    result = re.match(r"Result<(.*)>$", parts_of(call.text, "Self")[1])
-    return result and split_at(result[1])[-1]
+        for found in FUNCTION.finditer(text):
+            owner = re.findall(r"^(?:impl\b.*|\})", text[:found.start()], re.M)[-1:]
+            yield Function(path.relative_to(TOP / "crates"), *owner or [""], found["name"], bool(found["test"]), len(found["indent"]), found["text"])
 
 
 def failing():
     """The error type of each public call that can fail, its comment, and the names of its clauses that speak of the error, by crate and call."""
     found, traits = {}, {item.name for item in items("trait")}
     for call in items("fn"):
-        if refusal(call) and call.trait not in traits:
-            names = [name for kind, name, text in call.clauses if kind != "requires" and name and ON_ERROR.search(text)]
-            found[call.crate, call.path_name] = refusal(call), call.sentence, names
+        result = re.match(r"Result<(.*)>$", parts_of(call.text, "Self")[1])
+        if result and call.trait not in traits:
+            names = [name for kind, name, text in call.clauses if kind != "requires" and name and re.search(r"\b(?:IfErr|OnErr|IsErr|Err)\b", text)]
+            found[call.crate, call.path_name] = split_at(result[1])[-1], call.sentence, names
     for comment, name in re.findall(r"((?:^///.*\n)+)(?:#.*\n)*macro_rules! (\w+)", (TOP / "crates/ijson/src/macros.rt").read_text(), re.M):
-        comment = " ".join(line[3:].strip() for line in comment.splitlines())
-        if "`Result<" in comment:
-            found["ijson", f"{name}!"] = re.search(r"`Result<\w+, (\w+)>`", comment)[1], comment, []
+        for error in re.findall(r"`Result<\w+, (\w+)>`", comment):
+            found["ijson", f"{name}!"] = error, " ".join(line[3:].strip() for line in comment.splitlines()), []
     return found
 
 
-def reached(test, functions):
-    """A test and all functions of its folder, and of those that all folders share, that it names, directly or not."""
-    near = [it for it in functions if not it.is_test and it.crate == test.crate and (it.folders[1:2] in (["support"], test.folders[1:2]))]
-    seen, left = set(), [test]
-    while left:
-        here = left.pop()
-        if here not in seen:
-            seen.add(here)
-            left += [other for other in near if other.name in here.words]
-    return seen
+@functools.lru_cache(None)
+def words_of(body):
+    """Each word, macro, and path of two words."""
+    return {part for word in re.findall(r"(?:\w+::)?\w+!?", re.sub(r"::<[^()]*?>(?=::|\()", "", body)) for part in (word, *word.split("::"))}
 
 
 def tests():
     """Compares the public calls of the crates that can fail with the tests.
 
-    A test of its folder that is run with each allocation failing makes each such call, in its own body or in a function that it calls, asserts something,
-    and returns only at its end. A trait's call is made once, for all its implementations.
+    A test of its folder that is run with each allocation failing makes each such call, in its own body or in a function of its folder, or of `support`, that
+    it calls, directly or not; it asserts something, and returns only at its end. A trait's call is made once, for all its implementations.
     """
-    functions = list(functions_of([*sorted(TOP.glob("crates/*/src/tests.rt")), *sorted(TOP.glob("crates/*/src/tests/**/*.rt"))]))
-    methods = {call.path_name for call in items("fn") if SELF.search(call.text)}
-    made = set()
-    for test in functions:
-        if test.is_test and test.crate == "ijson" and "large" not in test.folders and not re.search(r"\breturn\b|\?;", test.body):
-            used = reached(test, functions)
-            if any(re.search(r"\bassert(?:_eq|_ne)?!", function.body) for function in used):
-                made |= {(folder, word) for folder in test.folders[1:2] for function in used for word in function.words}
-    wanted = failing()
-    amiss = []
+    folders, made = collections.defaultdict(list), collections.defaultdict(set)
+    for function in functions_of(sorted(TOP.glob("crates/ijson/src/tests/**/*.rt"))):
+        folders[function.path.with_suffix("").parts[3]].append(function)
+    for folder, test in ((folder, function) for folder, functions in folders.items() for function in functions):
+        if test.is_test and "large" not in test.path.with_suffix("").parts and not re.search(r"\breturn\b|\?;", test.body):
+            bodies = [test.body]
+            # grows while it is read
+            for body in bodies:
+                near = (it for it in [*folders["support"], *folders[folder]] if not it.is_test and it.name in words_of(body))
+                bodies += [it.body for it in near if it.body not in bodies]
+            if any(re.search(r"\bassert(?:_eq|_ne)?!", body) for body in bodies):
+                made[folder] = made[folder].union(*map(words_of, bodies))
+    methods, amiss, wanted = {call.path_name for call in items("fn") if re.search(r"\((?:&(?:'\w+ )?)?(?:mut )?self\b", call.text)}, [], failing()
     for crate, call in wanted:
-        by = BY.get(call, call)
-        word = by.rpartition("::")[2] if by in methods else by
-        if not any((folder, word) in made for folder in FOLDERS.get(crate, {crate.removeprefix("ijson_")})):
+        word = BY.get(call, call.rpartition("::")[2] if call in methods else call)
+        if not any(word in made[folder] for folder in FOLDERS.get(crate, [crate.removeprefix("ijson_")])):
             amiss.append(f"no test that is run with failing allocations makes the call `{call}` of {crate}")
     return len(wanted) - len(amiss), amiss
 
 
-@functools.lru_cache(None)
 def library_functions():
     """The functions of the libraries and of the program."""
     paths = [path for crates in ("ijson_*", "ijson") for _, path, _ in sources(crates)]
-    return list(functions_of(paths + [path for path in TOP.glob("crates/ijson_compact/src/*.rt") if path.name != "tests.rt"]))
+    return functions_of(paths + [path for path in TOP.glob("crates/ijson_compact/src/*.rt") if path.name != "tests.rt"])
 
 
 def places():
-    """Each place that makes an error for want of memory, as memory.txt names it: its function, and its line after those that enclose it, up to one that is
-    no arm of a `match`."""
+    """Each place that makes an error for want of memory, as memory.txt names it: its line after those around it, up to one that is no arm of a `match`."""
     for function in library_functions():
         lines = function.body.splitlines()[1:]
-        for at, line in enumerate(lines):
-            texts, indent = [line.strip().rstrip(",;")] if ERROR.search(line) else [], len(line) - len(line.lstrip())
-            for before in reversed(lines[:at] if texts else []):
-                depth = len(before) - len(before.lstrip())
-                if function.indent < depth < indent and (len(texts) == 1 or "=>" in texts[0]):
-                    texts, indent = [before.strip(), *texts], depth
-            owner = function.owner[0].partition(" ")[2].strip() + ": " if function.name == "from" and function.owner else ""
+        owner = re.search(r" (\w+<.* for \w+)", function.owner)[1] + ": " if function.name == "from" else ""
+        for at in (at for at, line in enumerate(lines) if ERROR.search(line)):
+            texts, inner = [lines[at].strip().rstrip(",;")], len(lines[at]) - len(lines[at].lstrip())
+            for line in reversed(lines[:at]):
+                outer = len(line) - len(line.lstrip())
+                if function.indent < outer < inner and (len(texts) == 1 or "=>" in texts[0]):
+                    texts, inner = [line.strip(), *texts], outer
             # a conversion from an error that means want of memory alone passes it on
-            if texts and not re.search(r"\bFrom<(?:AllocError|AllocFailed|Refused)\b", owner):
+            if not re.match(r"From<(?:AllocError|AllocFailed|Refused)\b", owner):
                 yield f"{function.path}: {owner}{function.name}: {' '.join(texts)}"
 
 
@@ -145,24 +115,19 @@ def meant(calls, caller, name):
     return same_file or [place for place in among if place[0] != caller[0] and place[0].parts[0] == caller[0].parts[0]] or among
 
 
-def allocating():
-    """The files and names of the functions that allocate: their bodies call one of `GROWS`, or a function that allocates."""
+def without_allocator():
+    """The public functions that allocate and have no allocator among their arguments, as memory.txt names them."""
     calls = collections.defaultdict(set)
     for function in library_functions():
         # `entry` is a method of formatters, too
-        calls[function.path, function.name] |= set(CALL.findall(function.body)) - ({"entry"} if function.name == "fmt" else set())
+        names = set(re.findall(r"(Box::new|\w+)(?:::<[^()]*>)?\(", function.body)) - ({"entry"} if function.name == "fmt" else set())
+        calls[function.path, function.name] |= names
     called = {caller: {place for name in names for place in meant(calls, caller, name)} for caller, names in calls.items()}
-    found = {place for place, names in calls.items() if names & GROWS}
-    while more := {place for place, others in called.items() if place not in found and others & found}:
-        found |= more
-    return found
-
-
-def without_allocator():
-    """The public functions that allocate and have no allocator among their arguments, as memory.txt names them."""
-    grow = allocating()
+    allocating = {place for place, names in calls.items() if names & GROWS}
+    while more := {place for place, others in called.items() if place not in allocating and others & allocating}:
+        allocating |= more
     for call in items("fn"):
-        if (call.path.relative_to(TOP / "crates"), call.name) in grow and not re.search(r": (?:Global|&?A)\b", call.text):
+        if (call.path.relative_to(TOP / "crates"), call.name) in allocating and not re.search(r": (?:Global|&?A)\b", call.text):
             yield f"{call.crate}: {call.path_name}"
 
 
@@ -170,17 +135,15 @@ def memory():
     """Compares two lists in memory.txt with the sources: places that make an error for want of memory, by their reasons, and public functions that
     allocate although no allocator is among their arguments.
 
-    A place makes such an error if it writes `AllocError` or the variant `Memory` as a value, not in an arm whose pattern is such an error. The list names
-    a place by its file, its function and what is around it, so a place with one more condition is another one. At most MOST places have a reason other
-    than the first, a failed allocation.
+    A place makes such an error if it writes `AllocError` or `Memory` as a value, not in an arm whose pattern is such an error. The list names it by its file,
+    its function and what is around it, so a place with one more condition is another one. At most 10 places have a reason other than the first, a failed
+    allocation. A function allocates if its body calls one of `GROWS`, or a function that allocates.
     """
-    first, second = re.findall(r"(?:^(?:[^#\n].*)\n)+", re.sub(r"^#.*\n", "", (TOP / MEMORY).read_text(), flags=re.M), re.M)
-    by_reason = [part.splitlines() for part in re.split(r"^(?=\S)", first, flags=re.M) if part]
-    listed = [line.strip() for _, *lines in by_reason for line in lines]
-    listed += [f"{line.partition(':')[0]}: {name}" for line in second.splitlines() for name in line.split()[1:]]
-    made = [*places(), *without_allocator()]
-    here, there = collections.Counter(made), collections.Counter(listed)
-    amiss = [f"not in {MEMORY}: {what}" for what in (here - there).elements()]
-    amiss += [f"{MEMORY} has, and the sources have not: {what}" for what in (there - here).elements()]
-    others = sum(len(lines) for _, *lines in by_reason[1:])
-    return len(made), amiss + [f"{MEMORY} has {others} places without a failed allocation, more than {MOST}"] * (others > MOST)
+    first, second = re.sub(r"^#.*\n", "", (TOP / MEMORY).read_text(), flags=re.M).split("\n\n")
+    reasons = [[line.strip() for line in lines.splitlines()] for lines in re.findall(r"^\S.*\n((?: .*\n?)+)", first, re.M)]
+    listed = collections.Counter([place for places in reasons for place in places])
+    listed += collections.Counter(f"{crate}: {name}" for crate, names in re.findall(r"^(\w+): (.*)", second, re.M) for name in names.split())
+    made, others = collections.Counter([*places(), *without_allocator()]), sum(map(len, reasons[1:]))
+    amiss = [f"not in {MEMORY}: {what}" for what in (made - listed).elements()]
+    amiss += [f"{MEMORY} has, and the sources have not: {what}" for what in (listed - made).elements()]
+    return sum(made.values()), amiss + [f"{MEMORY} has {others} places without a failed allocation, more than 10"] * (others > 10)

@@ -1,13 +1,11 @@
-"""What the sources say: the public items of the crates, their contracts, the bodies of functions, and the code blocks of pages."""
+"""What the sources say: the public items of the crates with their contracts; and the code in pages."""
 
-import dataclasses
 import functools
 import pathlib
 import re
 import sys
 
 TOP = pathlib.Path(__file__).resolve().parent.parent
-
 # The crates, lowest first, each with the libraries that it uses.
 CRATES = dict(re.findall(r"^(\w+):(.*)$", (TOP / "crates.txt").read_text(), re.M))
 ORDER = list(CRATES)
@@ -17,7 +15,6 @@ ITEM = re.compile(r"^( *)(pub )?(?:final )?(fn|ghost(?! use)|const|struct|enum|t
 TRAIT = re.compile(r"^(?:pub(?:\(crate\))? )?trait (\w+)", re.M)
 ENDS = re.compile(r" (?:requires|ensures\*?|decreases|where)\b| \{|;(?= ghost\b|$)")
 CLAUSE = re.compile(r"(requires|ensures\*?)( \w+)? \{(.*?)\}(?= (?:requires|ensures|decreases)|;|$)")
-
 # A piece of code in a page, and a block of code: the file that the line before it names in backticks, its language and its text.
 CODE = re.compile(r"`([^`]+)`")
 BLOCKS = re.compile(r"(?:`(crates/[^`\n]+)`[^`\n]*:\s*\n)?^```(\w+)\n(.*?)^```$", re.M | re.S)
@@ -30,90 +27,63 @@ LAWS = ("laws", "total", "matches_eq", "matches_partial_cmp", "respects_eq", "is
 WRAPPERS = re.compile(r"^(?:(?:IfOk|IfErr|IfSome|OnOk|OnErr|sem)\*? \S+ |λ [^.]*\. )")
 
 
-@dataclasses.dataclass(frozen=True, eq=False)
 class Item:
     """A public item; or a `ghost` member of an implementation; or an `impl` of a trait by hand, with the trait and the type as they are written.
 
-    The header is that of its trait, or of the implementation of a trait, else empty. `lines` are those of its file, `first` is the first line of its
-    block, and `at` its own.
+    The header is that of its trait, or of the implementation of a trait, else empty; all members of these are one `group`. `block` is where the block
+    around it begins, and `implementation` that line. `text` is the signature of a function, the type of a constant, the formula of a ghost member, or the
+    declaration of a type. `clauses` has (kind, name, text) of each `requires` and `ensures`, with a star or without.
     """
 
-    crate: str
-    path: pathlib.Path
-    kind: str
-    owner: str | None
-    name: str
-    header: str
-    lines: list
-    first: int
-    at: int
-
-    @property
-    def path_name(self):
-        """`Type::name`, or the name of a function."""
-        return f"{self.owner}::{self.name}" if self.owner else self.name
-
-    @property
-    def group(self):
-        """The same for all members of a trait, or of an implementation of a trait."""
-        return self.path, self.header or self.at
-
-    @property
-    def trait(self):
-        """The name of the trait that its block implements, or None."""
-        found = re.match(r"(?:\w+::)?(\w+).* for ", self.header)
-        return found and found[1]
-
-    @property
-    def sentence(self):
-        """Its doc comment, as one text."""
-        return " ".join(above(self.lines, self.at, "///"))
-
-    @property
-    def derived(self):
-        """The names in the derives of a type."""
-        return [name for names in above(self.lines, self.at, "#[derive(") for name in split_at(names.removesuffix(")]"))]
-
-    @property
-    def implementation(self):
-        """The implementation around it, as it is written."""
-        return self.lines[self.first].removesuffix(" {")
-
-    @functools.cached_property
-    def head(self):
-        """The head of a function as one line: its signature and its clauses, up to the body."""
-        indent = len(self.lines[self.at]) - len(self.lines[self.at].lstrip())
-        end = self.at + 1
-        while end < len(self.lines) and not re.match(rf"\s{{0,{indent}}}(\{{|\}}|///|#\[|(pub |final )?fn )", self.lines[end]):
-            end += 1
-        return in_one_line(self.lines[self.at:end])
-
-    @functools.cached_property
-    def text(self):
-        """The signature of a function, the type of a constant, the formula of a ghost member, the declaration of a type."""
-        if self.kind == "fn":
-            text = re.sub(r"([(<]) ", r"\1", ENDS.split(self.head)[0]).removeprefix("final ").replace(", )", ")")
-            # `mut` of a parameter does not concern callers
-            return re.sub(r"([(,] ?)mut (\w+:)", r"\1\2", text)
-        if self.kind == "const":
-            return re.match(r"[^:]*: ([^=]+?) =", self.lines[self.at])[1]
-        if self.kind == "ghost":
-            end = next(at for at in range(self.at, len(self.lines)) if self.lines[at].endswith("};"))
-            return re.sub(r"^ghost \w+ = \{ ?|\ ?};$", "", in_one_line(self.lines[self.at:end + 1]))
-        end = self.at if self.lines[self.at].endswith((";", "}")) else self.lines.index("}", self.at)
-        return "\n".join(self.lines[self.at:end + 1])
-
-    @functools.cached_property
-    def clauses(self):
-        """(kind, name, text) of each clause of a call: its `requires` and its `ensures`, with a star or without."""
-        return [(kind, name.strip(), text.strip()) for kind, name, text in CLAUSE.findall(self.head)]
+    def __init__(self, crate, path, kind, owner, name, header, lines, first, at):
+        self.crate, self.path, self.kind, self.owner, self.name, self.header, self.lines = crate, path, kind, owner, name, header, lines
+        self.path_name = f"{owner}::{name}" if owner else name
+        self.place = f"{self.path_name}{f' of `{header}`' * bool(header)} ({path.relative_to(TOP)})"
+        self.group, self.block, self.implementation = (path, header or at), (path, first), lines[first].removesuffix(" {")
+        trait = re.match(r"(?:\w+::)?(\w+).* for ", header)
+        self.trait = trait and trait[1]
+        begin = at
+        while begin and re.match(r"\s*(///|#\[)", lines[begin - 1]):
+            begin -= 1
+        self.sentence = " ".join(line.partition("///")[2].strip() for line in lines[begin:at] if "///" in line)
+        self.derived = [name for names in re.findall(r"#\[derive\((.*)\)\]", "\n".join(lines[begin:at])) for name in split_at(names)]
+        head = head_of(lines, at) if kind == "fn" else ""
+        self.clauses = [(kind, name.strip(), text.strip()) for kind, name, text in CLAUSE.findall(head)]
+        self.text = text_of(kind, head, lines, at)
 
     @functools.cached_property
     def contract(self):
         """(kind, name, text) of the promises of a call: its own clauses, those of its trait, and ghost members of its implementation."""
-        ghosts = [("ghost", it.name, it.text) for it in in_blocks().get((self.path, self.first), ()) if it.name not in LAWS]
         own = self.clauses + clauses_of_traits().get((self.trait, self.name), [])
-        return [clause for clause in own if clause[0] != "requires"] + (ghosts if self.trait else [])
+        members = (item for item in items("ghost") if item.block == self.block and self.trait and item.name not in LAWS)
+        return [clause for clause in own if clause[0] != "requires"] + [("ghost", item.name, item.text) for item in members]
+
+
+def in_one_line(lines):
+    """Lines as one, without comments."""
+    return " ".join(word for line in lines if not line.strip().startswith("//") for word in line.split())
+
+
+def head_of(lines, at):
+    """The head of a function as one line: its signature and its clauses, up to the body."""
+    indent, end = len(lines[at]) - len(lines[at].lstrip()), at + 1
+    while end < len(lines) and not re.match(rf"\s{{0,{indent}}}(\{{|\}}|///|#\[|(pub |final )?fn )", lines[end]):
+        end += 1
+    return in_one_line(lines[at:end])
+
+
+def text_of(kind, head, lines, at):
+    """The text of an item."""
+    if kind == "fn":
+        text = re.sub(r"([(<]) ", r"\1", ENDS.split(head)[0]).removeprefix("final ").replace(", )", ")")
+        # `mut` of a parameter does not concern callers
+        return re.sub(r"([(,] ?)mut (\w+:)", r"\1\2", text)
+    if kind == "const":
+        return re.match(r"[^:]*: ([^=]+?) =", lines[at])[1]
+    if kind == "ghost":
+        end = next(end for end in range(at, len(lines)) if lines[end].endswith("};"))
+        return re.sub(r"^ghost \w+ = \{ ?|\ ?};$", "", in_one_line(lines[at:end + 1]))
+    return "\n".join(lines[at:(at if lines[at].endswith((";", "}")) else lines.index("}", at)) + 1])
 
 
 def report(held, amiss, *name):
@@ -170,19 +140,6 @@ def parts_of(signature, owner):
     return inputs, text[end + 1:].replace("->", "", 1).strip() or "()"
 
 
-def above(lines, at, mark):
-    """The rest of each line with a mark, among the comments and attributes above a line."""
-    first = at
-    while first and re.match(r"\s*(///|#\[)", lines[first - 1]):
-        first -= 1
-    return [line.split(mark, 1)[1].strip() for line in lines[first:at] if mark in line]
-
-
-def in_one_line(lines):
-    """Lines as one, without comments."""
-    return " ".join(word for line in lines if not line.strip().startswith("//") for word in line.split())
-
-
 def exports(module):
     """The names that a module, or the crate of a `lib.rt`, exports."""
     text = module.read_text()
@@ -193,38 +150,23 @@ def exports(module):
     return names.union(*(exports(inside / f"{name}.rt") for name in re.findall(r"^pub mod (\w+);", text, re.M)))
 
 
-def block_at(line):
-    """The kind and the header of the implementation or the trait that begins in a line, without the parameters of an implementation."""
-    block = BLOCK.match(line)
-    kind, head = block.groups() if block else (None, "")
-    return kind, (head[closing(head) + 1:] if head.startswith("<") else head).strip()
-
-
-def is_public(indent, mark, kind, name, owner, header, public):
-    """Whether a declaration is a public item, by its mark `pub`, its indent, and its block; or a ghost member."""
-    if not indent:
-        return name in public and bool(mark or kind == "fn")
-    if kind == "const":
-        return bool(mark) and owner in public
-    return len(indent) == 4 and bool(header if kind == "ghost" else kind == "fn" and owner in public and (mark or header))
-
-
 def items_in(crate, path, public):
     """The items of a file, of a crate with these exports."""
     lines, owner, header, first = path.read_text().splitlines(), None, "", 0
     for at, line in enumerate(lines):
         # a line that ends the block before it, if any
         if line and not line[0].isspace() and not line.startswith(("}", "/", "#", ")", "ghost use")):
-            kind, head = block_at(line)
+            kind, head = BLOCK.match(line).groups() if BLOCK.match(line) else ("", "")
+            head = (head[closing(head) + 1:] if head.startswith("<") else head).strip()
             plain, first = without_generics(head), at
             owner = "nothing public" if plain.startswith(SKIPPED) else re.split(r"[\s:]", plain.split(" for ")[-1])[0] or None
             header = plain if kind == "trait" or " for " in plain else ""
             if kind == "impl" and header:
-                trait, of = head.replace("fmt::", "").split(" for ", 1)
-                yield Item(crate, path, "impl", of, trait, header, lines, first, at)
-        found = ITEM.match(line)
-        if found and is_public(*found.groups(), owner, header, public):
-            yield Item(crate, path, found[3], None if found[3] in TYPES else owner, found[4], header, lines, first, at)
+                yield Item(crate, path, "impl", *reversed(head.replace("fmt::", "").split(" for ", 1)), header, lines, first, at)
+        indent, mark, kind, name = ITEM.match(line).groups() if ITEM.match(line) else (line, "", "", "")
+        is_member = header if kind == "ghost" else kind in ("fn", "const") and owner in public and (mark or header)
+        if (len(indent) == 4 and is_member) if indent else name in public and (mark or kind == "fn"):
+            yield Item(crate, path, kind, None if kind in TYPES else owner, name, header, lines, first, at)
 
 
 def sources(crates="ijson_*"):
@@ -248,15 +190,6 @@ def items(*kinds, crates="ijson_*"):
 
 
 @functools.lru_cache(None)
-def in_blocks():
-    """The ghost members of each implementation, by its file and its first line."""
-    found = {}
-    for item in items("ghost"):
-        found.setdefault((item.path, item.first), []).append(item)
-    return found
-
-
-@functools.lru_cache(None)
 def clauses_of_traits():
     """The clauses of the calls of each trait that the crates declare, also the private ones, by trait and call."""
     found = {}
@@ -266,19 +199,13 @@ def clauses_of_traits():
     return found
 
 
-def inside(text):
-    """What a clause states after its brackets, parameters, premises, and the words that state of which result it holds."""
-    shorter = WRAPPERS.sub("", (split_at(text, "→", "()") or [""])[-1]).strip()
-    if shorter.startswith("(") and closing(shorter, "()") == len(shorter) - 1:
-        shorter = shorter[1:-1].strip()
-    return text if shorter == text else inside(shorter)
-
-
 def says_nothing(text):
-    """Whether a clause or a ghost member holds of everything: it states ⊤, an equation of equal sides, or several of these."""
-    text = inside(text)
-    parts = split_at(text, "×", "()")
-    if len(parts) > 1:
-        return all(says_nothing(part) for part in parts)
-    sides = split_at(text, "≡", "()")
-    return text in ("", "⊤") or (len(sides) == 2 and sides[0] == sides[1])
+    """Whether a clause or a ghost member holds of everything: it states ⊤, an equation of equal sides, or several of these, after its premises,
+    parameters, and the words that state of which result it holds."""
+    stated = WRAPPERS.sub("", (split_at(text, "→", "()") or [""])[-1]).strip()
+    if stated.startswith("(") and closing(stated, "()") == len(stated) - 1:
+        stated = stated[1:-1].strip()
+    if stated != text:
+        return says_nothing(stated)
+    parts, sides = split_at(text, "×", "()"), split_at(text, "≡", "()")
+    return all(map(says_nothing, parts)) if len(parts) > 1 else text in ("", "⊤") or len(sides) == 2 and sides[0] == sides[1]
