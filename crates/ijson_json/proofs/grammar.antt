@@ -3,6 +3,7 @@ pub mod FirstBytes
 pub mod CommaLists
 pub mod ElementShapes
 pub mod OneTree
+pub mod Insides
 pub mod SpelledTrees
 pub mod PrintedIsAccepted
 pub mod SettlesToItself

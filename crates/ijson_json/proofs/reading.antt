@@ -4,12 +4,9 @@ pub mod StringContent
 pub mod Numbers
 pub mod ElementLists
 pub mod Elements
-pub mod ElementFaults
 pub mod ArraysAndObjects
 pub mod Members
 pub mod Words
-pub mod Values
 pub mod CacheContents
 pub mod Gathering
 pub mod GatheredTrees
-pub mod WholeTexts

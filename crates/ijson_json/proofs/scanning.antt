@@ -1,5 +1,6 @@
 -- Scanning a text: its leading bytes, runs, and the positions at which it may be split.
 pub mod Prefixes
+pub mod Starts
 pub mod CommonFronts
 pub mod UnescapedRuns
 pub mod LaneMasks

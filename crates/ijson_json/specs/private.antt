@@ -2,6 +2,7 @@
 pub mod CompactErrorOfReadFault
 pub mod Delimiters
 pub mod Reading
+pub mod Contexts
 pub mod Explains
 pub mod ReadsKey
 pub mod ReadsScalar

@@ -26,8 +26,8 @@ pub use write::{INITIAL_CAPACITY, push_key, push_quoted, push_separator, to_json
 
 /// States that a text has at most one tree, and that a printed tree is read back.
 ///
-/// The second holds for well-formed trees within the limits. A text has at most one error, and none if it is accepted. The function does
-/// nothing; calling it gives a proof these laws.
+/// The second holds for well-formed trees within the limits. A text has at most one error, and none if it is accepted: `from_json`
+/// returns it. The function does nothing; calling it gives a proof these laws.
 pub fn grammar_law()
     ensures one_tree { OneTree }
     ensures printed { PrintedIsAccepted }

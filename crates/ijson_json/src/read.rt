@@ -5,7 +5,7 @@
 //! which uses `string` (with `escape` for the part after a backslash) and `number`. Of a string, the run without an escape is tried first,
 //! and of a number, the single pass over a common one.
 
-ghost use Rattle.std.specs.Prelude.{◌≡◌, ◌≤◌, MatchResult, IfOk, IfErr};
+ghost use Rattle.std.specs.Prelude.{◌≡◌, ◌≢◌, ◌≤◌, MatchResult, IfOk, IfErr};
 ghost use Rattle.ijson_value.specs.Tree.{Tree, depth};
 ghost use Rattle.ijson_value.specs.WellFormed.{IsWellFormed};
 ghost use Rattle.ijson_json.specs.Grammar.{Accepted};
@@ -14,6 +14,7 @@ ghost use Rattle.ijson_json.specs.Print.{print};
 ghost use Rattle.ijson_json.specs.AddsOnlyRead.{AddsOnlyRead};
 ghost use Rattle.ijson_json.specs.AreShared.{AreShared};
 ghost use Rattle.ijson_json.specs.private.Explains.{Answers, error_of};
+ghost use Rattle.ijson_json.specs.ErrorOf.{IsErrorOf};
 ghost use Rattle.ijson_json.specs.Refuses.{Refuses};
 ghost use Rattle.ijson_json.specs.declared.fault.JsonError;
 
@@ -101,7 +102,7 @@ fn read_text<S: BuildHasher>(
 ///
 /// Linear in the text, except for hash lookups of keys and strings. It recurses once per level, at most 127 times. Besides the value, it
 /// allocates for the elements and members of open arrays and objects, and for the content of the longest string with an escape.
-#[tactic(auto, using(crate::proofs::grammar::AcceptedDepth::answers_depth, crate::proofs::reading::WholeTexts::answers_printed))]
+#[tactic(auto, using(crate::proofs::grammar::AcceptedDepth::answers_depth, crate::proofs::faults::WholeTexts::answers_printed))]
 pub fn from_json<S: BuildHasher>(
     alloc: Global,
     cache: &mut StringCache<S>,
@@ -111,7 +112,9 @@ pub fn from_json<S: BuildHasher>(
     ensures accepted { IfOk result (λ value. Accepted text.now value.tree) }
     // It is nested no deeper than the limit.
     ensures nesting { IfOk result (λ value. depth value.tree ≤ max_depth) }
-    // Why a text is rejected.
+    // The error of the text, unless memory runs out.
+    ensures error { IfErr result (λ error. error ≢ JsonError.Memory → IsErrorOf text.now error) }
+    // What the error means for each reading of the text.
     ensures refused { IfErr result (λ error. Refuses text.now error) }
     // An accepted text is read, unless memory runs out.
     ensures read { (t : Tree) → Accepted text.now t

@@ -19,7 +19,7 @@ use Rattle.ijson_json.proofs.reading.StringContent.{content_behind}
 use Rattle.ijson_json.proofs.reading.ArraysAndObjects.{objects}
 use Rattle.ijson_json.proofs.errors.ListParts.{Opening, in_list}
 use Rattle.ijson_json.proofs.errors.Overlaps.{IsLonger, overlap, run_behind}
-use Rattle.ijson_json.proofs.errors.Completions.{character_completed}
+use Rattle.ijson_json.proofs.errors.Completions.{IsCompleted}
 use Rattle.ijson_json.proofs.errors.Places.{member_pair, descends}
 
 -- the text begins with the rest of a string
@@ -61,7 +61,7 @@ string_opening : (closing : ℕ) → ((34 == closing) ≡ false) → (p rest : L
 string_opening closing apart p rest (gap, body, s, sg, h, e) =
     record { gap = gap; cur = 34 ∷ (body ++ rest); space = sg; past = refl; other = apart; is = rw e (simp append_assoc) }
 
--- a text that is JSON goes on with the rest of the string where a character of it may begin
+-- a text that is JSON continues with the rest of the string where a character of it may begin
 pub content_at : (before rest : List ℕ) (t : Tree) → IsCharacterPlace before → Spaced (λ value. IsValue t value) (before ++ rest) → HasContent rest
 content_at before rest t (opened, i) s =
     let d = descends i rest start t (before ++ rest) [] s tt (append-nil (before ++ rest)) in
@@ -99,23 +99,23 @@ escape_first letters (s, rest, (body, h, e)) = go h e
     go empty e = absurd (heads_apart 92 34 _ _ e refl)
     go (one_more {written} {meant} {body} c h) e = (written, meant, body ++ 34 ∷ rest, c, e ∙ append_assoc written body (34 ∷ rest))
 
--- `~` is no letter and no digit of an escape
-short_apart : (c : ℕ) → short_escape 126 ≡ Some c → ⊥
+-- a space is no letter and no digit of an escape
+short_apart : (c : ℕ) → short_escape 32 ≡ Some c → ⊥
 unfolding short_escape
 short_apart c h = absurd cc
 
-digit_apart : (d : ℕ) → hex_digit 126 ≡ Some d → ⊥
+digit_apart : (d : ℕ) → hex_digit 32 ≡ Some d → ⊥
 unfolding hex_digit
 digit_apart d h = absurd cc
 
 abbrev is_other : ℕ → Bool
-is_other b = not (b == 126)
+is_other b = not (b == 32)
 
 other_letter : (b c : ℕ) → short_escape b ≡ Some c → IsTrue (is_other b)
-other_letter b c h = rw (ne_eqb b 126 (λ e. short_apart c (rw e at h))) refl
+other_letter b c h = rw (ne_eqb b 32 (λ e. short_apart c (rw e at h))) refl
 
 other_digit : (b d : ℕ) → hex_digit b ≡ Some d → IsTrue (is_other b)
-other_digit b d h = rw (ne_eqb b 126 (λ e. digit_apart d (rw e at h))) refl
+other_digit b d h = rw (ne_eqb b 32 (λ e. digit_apart d (rw e at h))) refl
 
 other_digits : (h : List ℕ) (u : ℕ) → Hex h u → Run is_other h
 other_digits h u x = subst (λ (l : List ℕ). Run is_other l) (sym x.text_is)
@@ -128,34 +128,29 @@ escape_others x y (unicode {h} {u} hex i j) e = (refl, (refl, other_digits h u h
 escape_others x y (pair {h} {l} {u} {v} hex i low j) e =
     (refl, (refl, all-append _ h (92 ∷ 117 ∷ l) (other_digits h u hex) (refl, (refl, other_digits l v low))))
 
--- an escape ends before a `~`
-escape_within : {w m : List ℕ} (mid z y : List ℕ) → Character w m → 92 ∷ (mid ++ 126 ∷ z) ≡ w ++ y → (more : List ℕ) × (92 ∷ mid ≡ w ++ more)
+-- an escape ends before a space
+escape_within : {w m : List ℕ} (mid z y : List ℕ) → Character w m → 92 ∷ (mid ++ 32 ∷ z) ≡ w ++ y → (more : List ℕ) × (92 ∷ mid ≡ w ++ more)
 escape_within {w} mid z y c e =
-    let others = escape_others (mid ++ 126 ∷ z) y c e in
-    elim (overlap (92 ∷ mid) w (126 ∷ z) y e) [
+    let others = escape_others (mid ++ 32 ∷ z) y c e in
+    elim (overlap (92 ∷ mid) w (32 ∷ z) y e) [
       | inl s ↦ ([], s.0 ∙ sym (append-nil w))
       | inr o ↦ elim o [
         | inl l ↦ absurd
             (let behind = run_behind is_other (92 ∷ mid) (l.0 ∷ l.1) (subst (λ (l : List ℕ). Run is_other l) l.2 others) in
-            let same : l.0 ≡ 126 = sym (heads _ _ _ _ l.3) in
-            not_both (is_other 126) (rw same at behind.0) refl)
+            let same : l.0 ≡ 32 = sym (heads _ _ _ _ l.3) in
+            not_both (is_other 32) (rw same at behind.0) refl)
         | inr l ↦ (l.0 ∷ l.1, l.2)
       ]
     ]
 
-behind_escape : (a b mid closing : List ℕ) (c : ℕ) → b ≡ a ++ c ∷ mid → c ≡ 92
-    → (b ++ 126 ∷ []) ++ closing ≡ a ++ 92 ∷ (mid ++ 126 ∷ closing)
-behind_escape a b mid closing c e backslash = rw (e, backslash) (simp append_assoc)
-
--- no text goes on to a character behind a backslash that begins no escape
-pub no_escape_before : {text : List ℕ} {at m : ℕ} (a : BadEscapeAt text at) (b : BadEscapeAt text m)
-    → IsLonger a.before b.before (92 ∷ a.letters) (92 ∷ b.letters) → ⊥
-no_escape_before a b (c, mid, e, f) =
+-- after a backslash that begins no escape, no JSON text continues to a place where a space may follow
+pub no_escape_before : {text : List ℕ} {at : ℕ} (a : BadEscapeAt text at) (before y : List ℕ) → IsCompleted (before ++ 32 ∷ [])
+    → IsLonger a.before before (92 ∷ a.letters) y → ⊥
+no_escape_before a before y (closing, t, s) (c, mid, e, f) =
     let backslash : c ≡ 92 = sym (heads _ _ _ _ f) in
-    let (closing, t, s) = character_completed b.before b.place in
-    let whole = behind_escape a.before b.before mid closing c e backslash in
-    let content = content_at a.before (92 ∷ (mid ++ 126 ∷ closing)) t a.place (subst (λ (l : List ℕ). Spaced (λ value. IsValue t value) l) whole s) in
-    let (w, m, y, character, g) = escape_first (mid ++ 126 ∷ closing) content in
-    let (more, h) = escape_within mid closing y character g in
-    a.none w m (more ++ 92 ∷ b.letters) character
-    (ap (λ (l : List ℕ). 92 ∷ l) (tails _ _ _ _ f) ∙ ap (λ (l : List ℕ). l ++ 92 ∷ b.letters) h ∙ append_assoc w more (92 ∷ b.letters))
+    let whole : (before ++ 32 ∷ []) ++ closing ≡ a.before ++ 92 ∷ (mid ++ 32 ∷ closing) = rw (e, backslash) (simp append_assoc) in
+    let content = content_at a.before (92 ∷ (mid ++ 32 ∷ closing)) t a.place (subst (λ (l : List ℕ). Spaced (λ value. IsValue t value) l) whole s) in
+    let (w, m, rest, character, g) = escape_first (mid ++ 32 ∷ closing) content in
+    let (more, h) = escape_within mid closing rest character g in
+    a.none w m (more ++ y) character
+    (ap (λ (l : List ℕ). 92 ∷ l) (tails _ _ _ _ f) ∙ ap (λ (l : List ℕ). l ++ y) h ∙ append_assoc w more y)

@@ -1,10 +1,13 @@
 -- Bytes inside containers begin a text: what is behind them and the brackets complete it.
-use Rattle.std.proofs.Common.{ℕ, List, [], ◌∷◌, ◌++◌, refl, sym, ap, subst, append_assoc, append-nil, inl, inr}
+use Rattle.std.proofs.Common.{◌≡◌, ℕ, List, [], ◌∷◌, ◌++◌, refl, sym, ap, subst, append_assoc, append-nil, inl, inr}
 use Rattle.std.specs.Prelude.{◌⊎◌}
-use Rattle.ijson_value.specs.Tree.{Tree, null, string}
-use Rattle.ijson_json.specs.Strings.{unescaped}
+use Rattle.ijson_number.specs.Decimal.{Decimal}
+use Rattle.ijson_number.specs.Grammar.{Spells}
+use Rattle.ijson_value.specs.Tree.{Tree, null, number, string, array, object, no_items, no_members}
+use Rattle.ijson_json.specs.Strings.{Character, unescaped}
 use Rattle.ijson_json.specs.Grammar.{IsSpace, Spaced, IsString, IsValue, null_text}
-use Rattle.ijson_json.specs.Inside.{EachWithComma, no_comma, comma_after, Inside, here, in_array, in_object, IsOpenString, IsOpenKey, IsCharacterPlace}
+use Rattle.ijson_json.specs.Inside.{EachWithComma, no_comma, comma_after, Inside, here, in_array, in_object, IsValuePlace, IsOpenString, IsOpenKey, IsCharacterPlace}
+use Rattle.ijson_json.proofs.scanning.Prefixes.{all-append}
 use Rattle.ijson_json.proofs.grammar.CommaLists.{IsList, Shape}
 use Rattle.ijson_json.proofs.grammar.ElementShapes.{items_shape, members_shape, spaced_pair}
 use Rattle.ijson_json.proofs.grammar.SpelledTrees.{spaced}
@@ -55,26 +58,28 @@ completed (in_object gap key {members} {inside} sg each k i) rest at =
     let w = each_wrapped (List ℕ × Tree) members_shape objects gap (k.0, t) text sg each member_pair member in
     (closing ++ 125 ∷ [], w.0, subst (λ (l : List ℕ). Spaced (λ value. IsValue w.0 value) l) (simp append_assoc) w.1)
 
--- a quote closes an open string after one more `~`
-string_closed : (text : List ℕ) → IsOpenString text → (k : List ℕ) × Spaced (λ string. IsString k string) ((text ++ 126 ∷ []) ++ 34 ∷ [])
-string_closed text (gap, body, s, sg, h, e) = (
-  s ++ 126 ∷ [],
+-- a quote closes an open string after one more character
+string_closed : (text written meant : List ℕ) → Character written meant → IsOpenString text
+    → (k : List ℕ) × Spaced (λ string. IsString k string) ((text ++ written) ++ 34 ∷ [])
+string_closed text written meant c (gap, body, s, sg, h, e) = (
+  s ++ meant,
   (
     gap,
-    34 ∷ ((body ++ 126 ∷ []) ++ 34 ∷ []),
+    34 ∷ ((body ++ written) ++ 34 ∷ []),
     [],
     sg,
-    (body ++ 126 ∷ [], body-push h (unescaped refl), refl),
+    (body ++ written, body-push h c, refl),
     tt,
     rw e (simp (append_assoc, append-nil)),
   ),
 )
 
-open_completed : (text : List ℕ) → IsOpenString text ⊎ IsOpenKey text → IsCompleted (text ++ 126 ∷ [])
-open_completed text (inl o) = let c = string_closed text o in (34 ∷ [], string c.0, c.1)
-open_completed text (inr (gap, members, key, sg, each, o, e)) =
-    let c = string_closed key o in
-    let string : List ℕ = (key ++ 126 ∷ []) ++ 34 ∷ [] in
+open_completed : (written meant : List ℕ) → Character written meant → (text : List ℕ) → IsOpenString text ⊎ IsOpenKey text
+    → IsCompleted (text ++ written)
+open_completed written meant character text (inl o) = let c = string_closed text written meant character o in (34 ∷ [], string c.0, c.1)
+open_completed written meant character text (inr (gap, members, key, sg, each, o, e)) =
+    let c = string_closed key written meant character o in
+    let string : List ℕ = (key ++ written) ++ 34 ∷ [] in
     let member = spaced_pair c.0 null (string ++ 58 ∷ null_text)
     (string, null_text, c.1, spaced (λ value. IsValue null value) null_text refl, refl) in
     let w = each_wrapped (List ℕ × Tree) members_shape objects gap (c.0, null) (string ++ 58 ∷ null_text) sg each member_pair member in (
@@ -83,6 +88,30 @@ open_completed text (inr (gap, members, key, sg, each, o, e)) =
       subst (λ (l : List ℕ). Spaced (λ value. IsValue w.0 value) l) (rw e (simp append_assoc)) w.1,
     )
 
--- `~` may follow where a character of a string may begin
-pub character_completed : (before : List ℕ) → IsCharacterPlace before → IsCompleted (before ++ 126 ∷ [])
-character_completed before (opened, i) = completed i (126 ∷ []) open_completed
+-- any character may follow where a character of a string may begin
+pub character_completed : (before written meant : List ℕ) → Character written meant → IsCharacterPlace before
+    → IsCompleted (before ++ written)
+character_completed before written meant c (opened, i) = completed i written (open_completed written meant c)
+
+-- a space may follow where a character of a string may begin
+pub space_in_string : (before : List ℕ) → IsCharacterPlace before → IsCompleted (before ++ 32 ∷ [])
+space_in_string before place = character_completed before (32 ∷ []) (32 ∷ []) (unescaped refl) place
+
+-- white space may follow where a value may begin
+pub space_completed : {opened : ℕ} {before : List ℕ} → IsValuePlace opened before → IsCompleted (before ++ 32 ∷ [])
+space_completed place = completed place (32 ∷ [])
+    (λ last gap. (null_text, null, (last ++ 32 ∷ [], null_text, [], all-append _ last (32 ∷ []) gap (refl, tt), refl, tt, refl)))
+
+-- a number may follow where a value may begin
+pub number_completed : {opened : ℕ} {before : List ℕ} (text : List ℕ) (n : Decimal) → IsValuePlace opened before → Spells text n
+    → IsCompleted (before ++ text)
+number_completed text n place spelled = completed place text
+    (λ last gap. ([], number n, (last, text, [], gap, spelled, tt, append_assoc last text [])))
+
+-- an opening bracket may follow where a value may begin
+pub bracket_completed : {opened : ℕ} {before : List ℕ} (bracket : ℕ) → IsValuePlace opened before → (bracket ≡ 91) ⊎ (bracket ≡ 123)
+    → IsCompleted (before ++ bracket ∷ [])
+bracket_completed bracket place (inl e) = rw e (completed place (91 ∷ [])
+    (λ last gap. (93 ∷ [], array no_items, (last, 91 ∷ 93 ∷ [], [], gap, ([], tt, refl), tt, append_assoc last (91 ∷ []) (93 ∷ [])))))
+bracket_completed bracket place (inr e) = rw e (completed place (123 ∷ [])
+    (λ last gap. (125 ∷ [], object no_members, (last, 123 ∷ 125 ∷ [], [], gap, ([], tt, refl), tt, append_assoc last (123 ∷ []) (125 ∷ [])))))

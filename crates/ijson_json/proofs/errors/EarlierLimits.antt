@@ -1,6 +1,6 @@
 -- A text has at most one error of a limit: the bytes before the second would exceed the limit of the first.
-use Rattle.std.proofs.Common.{◌≡◌, ℕ, zero, suc, ◌+◌, ◌<◌, ◌≤◌, Bool, false, List, [], ◌∷◌, ◌++◌, length, take, refl, sym, ap, subst, ◌∙◌, append_assoc, append-nil, arith, inl, inr}
-use Rattle.std.specs.Prelude.{◌⊎◌}
+use Rattle.std.proofs.Common.{◌≡◌, ℕ, zero, suc, ◌+◌, ◌<◌, ◌≤◌, Bool, true, false, List, [], ◌∷◌, ◌++◌, length, take, refl, sym, ap, subst, ◌∙◌, append_assoc, append-nil, arith, inl, inr}
+use Rattle.std.specs.Prelude.{◌⊎◌, ◌||◌, ◌&&◌, nat_le}
 use Rattle.std.proofs.lemmas.Bool.{cases_lt}
 use Rattle.std.proofs.lemmas.Bool.Decides.{nat_tests}
 use Rattle.std.proofs.lemmas.List.{length-append, take-append-le}
@@ -19,16 +19,20 @@ use Rattle.ijson_json.proofs.errors.LimitErrors.{accepted_shallow, accepted_rang
 
 -- ---- the last byte before a value
 
--- the text is empty, or its last byte is none of a number
+-- a byte of a number or of `null`, `true` and `false`
+abbrev pub is_token : ℕ → Bool
+is_token b = is_number_byte b || (nat_le 97 b && nat_le b 122)
+
+-- the text is empty, or its last byte is in no number and no word
 abbrev EndsPlain : List ℕ → Type 0
-EndsPlain text = (text ≡ []) ⊎ ((front : List ℕ) × (b : ℕ) × (is_number_byte b ≡ false) × (text ≡ front ++ b ∷ []))
+EndsPlain text = (text ≡ []) ⊎ ((front : List ℕ) × (b : ℕ) × (is_token b ≡ false) × (text ≡ front ++ b ∷ []))
 
 -- a text behind another
 ends_behind : (a b : List ℕ) → EndsPlain a → EndsPlain b → EndsPlain (a ++ b)
 ends_behind a b p (inr (front, c, plain, e)) = inr (a ++ front, c, plain, ap (λ (l : List ℕ). a ++ l) e ∙ sym (append_assoc a front (c ∷ [])))
 ends_behind a b p (inl e) = subst EndsPlain (rw e (sym (append-nil a))) p
 
-space_plain : (b : ℕ) → IsTrue (is_space b) → is_number_byte b ≡ false
+space_plain : (b : ℕ) → IsTrue (is_space b) → is_token b ≡ false
 space_plain b h = grind (arith, nat_tests)
 
 space_ends : (text : List ℕ) → IsSpace text → EndsPlain text
@@ -51,10 +55,10 @@ place_ends (in_object gap key {members} {inside} sg each k i) =
     let colon : EndsPlain (((gap ++ 123 ∷ members) ++ key) ++ 58 ∷ []) = inr ((gap ++ 123 ∷ members) ++ key, 58, refl, refl) in
     subst EndsPlain (simp append_assoc) (ends_behind (((gap ++ 123 ∷ members) ++ key) ++ 58 ∷ []) inside colon (place_ends i))
 
--- no value begins right after bytes of a number
-within_number : {opened : ℕ} {before : List ℕ} (front : List ℕ) (c : ℕ) (more : List ℕ) → Inside IsSpace opened before
-    → before ≡ front ++ c ∷ more → Run is_number_byte (c ∷ more) → ⊥
-within_number front c more i e h = go (place_ends i) e
+-- no value begins right after bytes of a number or a word
+pub within_token : {opened : ℕ} {before : List ℕ} (front : List ℕ) (c : ℕ) (more : List ℕ) → Inside IsSpace opened before
+    → before ≡ front ++ c ∷ more → Run is_token (c ∷ more) → ⊥
+within_token front c more i e h = go (place_ends i) e
   where
     go : {text : List ℕ} → EndsPlain text → text ≡ front ++ c ∷ more → ⊥
     go (inl n) e = no_end front (sym n ∙ e)
@@ -62,7 +66,15 @@ within_number front c more i e h = go (place_ends i) e
         no_end : (front : List ℕ) → [] ≡ front ++ c ∷ more → ⊥
         no_end [] e = cc
         no_end (d ∷ front) e = cc
-    go (inr (a, b, plain, f)) e = not_both (is_number_byte b) (last_passes is_number_byte front more c a b h (sym e ∙ f)) plain
+    go (inr (a, b, plain, f)) e = not_both (is_token b) (last_passes is_token front more c a b h (sym e ∙ f)) plain
+
+-- the bytes of a number
+number_token : (b : ℕ) → is_number_byte b ≡ true → is_token b ≡ true
+number_token b h = rw h refl
+
+pub number_tokens : (text : List ℕ) → Run is_number_byte text → Run is_token text
+number_tokens [] h = tt
+number_tokens (b ∷ text) h = (number_token b h.0, number_tokens text h.1)
 
 -- ---- the front of a number
 
@@ -109,6 +121,6 @@ no_range_before a opened before y (more, tree, accepted) i (c, mid, e, f) =
       | inl less ↦ accepted_ranged (before ++ more) tree a.opened a.before ((c ∷ mid) ++ more) accepted
           (ap (λ (l : List ℕ). l ++ more) e ∙ append_assoc a.before (c ∷ mid) more) a.place
           (same_unread (c ∷ mid) y more count front' past' less)
-      | inr most ↦ within_number a.before c mid i e
-          (run_front is_number_byte (c ∷ mid) y count (spells_bytes _ past'.0 past'.1) (omega (arith, most)))
+      | inr most ↦ within_token a.before c mid i e (number_tokens (c ∷ mid)
+          (run_front is_number_byte (c ∷ mid) y count (spells_bytes _ past'.0 past'.1) (omega (arith, most))))
     ]

@@ -10,11 +10,10 @@ use Rattle.ijson_json.specs.Ranged.{is_ranged}
 use Rattle.ijson_json.specs.Grammar.{is_space, Spaced, IsValue, Accepted}
 use Rattle.ijson_json.specs.Limits.{max_depth}
 use Rattle.ijson_json.specs.Inside.{IsValuePlace}
-use Rattle.ijson_json.specs.private.Reading.{Past}
+use Rattle.ijson_json.specs.private.Reading.{Front, Past, PastLimitAt, Stops}
 use Rattle.ijson_json.proofs.scanning.Prefixes.{not_both}
 use Rattle.ijson_json.proofs.grammar.FirstBytes.{kind, kind_at, value-past_space, value-past_kind}
 use Rattle.ijson_json.proofs.reading.Numbers.{past_limit}
-use Rattle.ijson_json.proofs.reading.Values.{out_of_range}
 use Rattle.ijson_json.proofs.errors.Places.{value_at}
 
 -- ---- what stands beyond a limit
@@ -40,6 +39,20 @@ bracket_deep opened before b rest t i o s =
     let deep : 1 ≤ depth v.value = container_deep v.value (omega (arith, same, high)) in
     omega (arith, v.deep, deep)
 
+-- each value at the start of the text is a number beyond the limit
+value_past : (text : List ℕ) → PastLimitAt text → (t : Tree) (x : List ℕ) → Stops x → Front (λ value. IsValue t value) text x
+    → is_ranged t ≡ false
+value_past text p (number n) x stops g =
+    p.each n x (record { found = record { front = g.front; holds = g.holds; is = g.is }; stops = stops })
+value_past text p t x stops g =
+    let f = p.beginning in
+    let n = f.holds.0 in
+    let (first, more, k, e) = spells_first f.front n f.holds.1 in
+    let begun : text ≡ first ∷ (more ++ p.rest) = f.is ∙ ap (λ (l : List ℕ). l ++ p.rest) e in
+    let same : rank t ≡ 2 = sym (kind_at t first (more ++ p.rest) text x begun g)
+    ∙ kind_at (number n) first (more ++ p.rest) text p.rest begun (record { front = f.front; holds = f.holds.1; is = f.is }) in
+    absurd (omega (arith, same))
+
 -- a number beyond the limit where a value may begin
 pub number_past : (opened : ℕ) (before rest : List ℕ) (t : Tree) → IsValuePlace opened before → IsUnread rest OutOfRange
     → Spaced (λ value. IsValue t value) (before ++ rest) → is_ranged t ≡ true → ⊥
@@ -50,10 +63,7 @@ number_past opened before rest t i (count, front, past) s ranged =
     let space : Past is_space rest = rw f.is (value-past_space (number n.0) f.front p.rest n.1) in
     let other : Past (λ b. b == 93) rest = rw f.is (value-past_kind 93 refl (number n.0) f.front p.rest n.1) in
     let v = value_at opened before rest t i space other s in
-    let first = spells_first f.front n.0 n.1 in
-    let begun : rest ≡ first.0 ∷ (first.1 ++ p.rest) = f.is ∙ ap (λ (l : List ℕ). l ++ p.rest) first.3 in
-    let beyond = out_of_range rest first.0 (first.1 ++ p.rest) begun p in
-    not_both (is_ranged v.value) (v.ranged ranged) (beyond.each v.value v.behind v.stops v.front)
+    not_both (is_ranged v.value) (v.ranged ranged) (value_past rest p v.value v.behind v.stops v.front)
 
 -- neither is in a text that is accepted
 pub accepted_shallow : (text : List ℕ) (tree : Tree) (before : List ℕ) (b : ℕ) (rest : List ℕ) → Accepted text tree

@@ -13,6 +13,7 @@ use Rattle.ijson_json.proofs.grammar.FirstBytes.{kind_at}
 use Rattle.ijson_json.proofs.errors.Overlaps.{IsLonger, overlap}
 use Rattle.ijson_json.proofs.errors.LimitErrors.{bracket_is, accepted_shallow, accepted_ranged}
 use Rattle.ijson_json.proofs.errors.EarlierLimits.{no_deep_before, no_range_before}
+use Rattle.ijson_json.proofs.errors.Completions.{space_in_string}
 use Rattle.ijson_json.proofs.errors.CharacterPlaces.{content_at, escape_first, no_escape_before}
 
 -- a bad escape is in no text that is JSON
@@ -69,7 +70,10 @@ deep_or_range a b = elim (overlap a.before b.before (a.bracket ∷ a.rest) b.res
 same_escape : {text : List ℕ} {at m : ℕ} → BadEscapeAt text at → BadEscapeAt text m → at ≡ m
 same_escape a b = elim (overlap a.before b.before (92 ∷ a.letters) (92 ∷ b.letters) (sym a.is ∙ b.is)) [
   | inl s ↦ a.at_is ∙ ap length s.0 ∙ sym b.at_is
-  | inr o ↦ elim o [ inl l ↦ absurd (no_escape_before a b l) | inr l ↦ absurd (no_escape_before b a l) ]
+  | inr o ↦ elim o [
+    | inl l ↦ absurd (no_escape_before a b.before (92 ∷ b.letters) (space_in_string b.before b.place) l)
+    | inr l ↦ absurd (no_escape_before b a.before (92 ∷ a.letters) (space_in_string a.before a.place) l)
+  ]
 ]
 
 -- no JSON text begins with more than the bytes before the byte that stops it

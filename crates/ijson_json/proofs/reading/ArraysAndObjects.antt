@@ -1,5 +1,5 @@
 -- Reading arrays and objects, element by element.
-use Rattle.std.proofs.Common.{◌≡◌, ℕ, suc, Bool, List, [], ◌∷◌, ◌++◌, refl, sym, ap, ap₂, ◌∙◌, arith, inl, inr}
+use Rattle.std.proofs.Common.{◌≡◌, ℕ, suc, ◌+◌, Bool, List, [], ◌∷◌, ◌++◌, refl, sym, ap, ap₂, subst, ◌∙◌, arith, inl, inr}
 use Rattle.std.specs.Prelude.{◌&&◌}
 use Rattle.ijson_table.specs.Store.{put, put_each}
 use Rattle.ijson_value.specs.laws.MemberTrees.{members_of-list}
@@ -9,14 +9,17 @@ use Rattle.ijson_value.specs.Tree.{depth}
 use Rattle.ijson_value.specs.Order.{rank}
 use Rattle.ijson_json.specs.Ranged.{is_ranged}
 use Rattle.ijson_json.specs.Settled.{settled, settled_items, settled_pairs}
-use Rattle.ijson_json.specs.Grammar.{IsValue}
+use Rattle.ijson_json.specs.Grammar.{IsSpace, IsValue}
+use Rattle.ijson_json.specs.Inside.{EachWithComma, here, in_array, IsElement, IsMember, IsValuePlace}
 use Rattle.ijson_json.specs.private.Reading.{Front}
+use Rattle.ijson_json.specs.private.Contexts.{IsMemberPlace}
 use Rattle.ijson_json.proofs.scanning.Prefixes.{tails}
 use Rattle.ijson_json.proofs.grammar.FirstBytes.{kind_at}
 use Rattle.ijson_json.proofs.grammar.CommaLists.{IsList}
+use Rattle.ijson_json.proofs.grammar.Insides.{inside_append, inside_deeper}
 use Rattle.ijson_json.proofs.grammar.OneTree.{value_same, pair_same, enclosed_with}
 use Rattle.ijson_json.proofs.reading.Elements.{Listing}
-use Rattle.ijson_json.proofs.grammar.ElementShapes.{items_shape, members_shape, items_to, items_from, members_to, members_from}
+use Rattle.ijson_json.proofs.grammar.ElementShapes.{items_shape, members_shape, spaced_pair_back, items_to, items_from, members_to, members_from}
 use Rattle.ijson_json.proofs.reading.ElementLists.{deepest, all_ranged}
 
 -- ---- a value that begins with a bracket
@@ -59,6 +62,19 @@ pub object_ranged : (ms : List (List ℕ × Tree)) → is_ranged (object (member
 object_ranged [] = refl
 object_ranged (m ∷ ms) = ap (λ (b : Bool). is_ranged m.1 && b) (object_ranged ms)
 
+-- an element may begin after the bracket of an array and elements with their commas
+pub array_placed : (opened : ℕ) (before parts space : List ℕ) → IsValuePlace opened before → EachWithComma IsElement parts → IsSpace space
+    → IsValuePlace (opened + 1) (before ++ 91 ∷ (parts ++ space))
+array_placed opened before parts space place each s =
+    subst (λ (n : ℕ). IsValuePlace n (before ++ 91 ∷ (parts ++ space))) (omega arith)
+    (inside_deeper (inside_append (91 ∷ (parts ++ space)) place (λ last gap. in_array last gap each (here s))))
+
+-- a member may begin after the bracket of an object and members with their commas
+pub object_placed : (opened : ℕ) (before parts space : List ℕ) → IsValuePlace opened before → EachWithComma IsMember parts → IsSpace space
+    → IsMemberPlace (opened + 1) (before ++ 123 ∷ (parts ++ space))
+object_placed opened before parts space place each s =
+    (opened, refl, inside_append (123 ∷ (parts ++ space)) place (λ last gap. (last, parts, space, gap, each, s, refl)))
+
 -- how elements form an array
 abbrev pub arrays : Listing Tree items_shape
 arrays = record {
@@ -71,6 +87,10 @@ arrays = record {
   depth_is = array_depth;
   ranged_is = array_ranged;
   ends = λ ts x. tt;
+  IsPart = IsElement;
+  part = λ t text s. (t, s);
+  IsPlace = IsValuePlace;
+  placed = array_placed;
 }
 
 -- how members form an object
@@ -85,6 +105,10 @@ objects = record {
   depth_is = object_depth;
   ranged_is = object_ranged;
   ends = λ ms x. tt;
+  IsPart = IsMember;
+  part = λ m text s. let (key, value, k, v, e) = spaced_pair_back m.0 m.1 text s in (key, value, (m.0, k), (m.1, v), e);
+  IsPlace = IsMemberPlace;
+  placed = object_placed;
 }
 
 -- ---- settling

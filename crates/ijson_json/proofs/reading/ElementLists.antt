@@ -2,10 +2,10 @@
 use Rattle.std.proofs.Common.{◌≡◌, ℕ, Bool, true, max, List, [], ◌∷◌, ◌++◌, refl, sym, append_assoc, arith}
 use Rattle.std.specs.Prelude.{◌&&◌}
 use Rattle.std.proofs.Math.Bool.{and_assoc}
-use Rattle.ijson_value.specs.Tree.{Tree, depth}
+use Rattle.ijson_value.specs.Tree.{depth}
 use Rattle.ijson_json.specs.Ranged.{is_ranged}
 use Rattle.ijson_json.specs.Grammar.{IsSpace}
-use Rattle.ijson_json.specs.private.Reading.{Found, Beyond}
+use Rattle.ijson_json.specs.private.Reading.{Found}
 use Rattle.ijson_json.proofs.scanning.Prefixes.{all-append}
 use Rattle.ijson_json.proofs.grammar.CommaLists.{IsList, Shape}
 
@@ -33,10 +33,6 @@ module _ (E : Type 0) (S : Shape E) where
   -- an element was read
   abbrev pub ElementRead : ℕ → List ℕ → E → List ℕ → Type 0
   ElementRead opened cur e after = Found E (λ e text. S.Is e text) (λ e. S.inner e) opened cur e after
-
-  -- each element that could be here is Bad, and a beginning is Worst
-  abbrev pub ElementBeyond : (Tree → Type 0) → (Tree → Type 0) → List ℕ → Type 0
-  ElementBeyond Bad Worst cur = Beyond E (λ e text. S.Is e text) (λ e. S.inner e) Bad Worst cur
 
   -- leading white space changes nothing
   pub absorb : (e : E) (more : List E) (s others : List ℕ) → IsSpace s → IsList S.Is (e ∷ more) others

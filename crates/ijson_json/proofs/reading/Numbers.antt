@@ -16,8 +16,7 @@ use Rattle.ijson_number.specs.NumberFront.{IsNumberFront, IsPastLimit}
 use Rattle.ijson_number.proofs.parsing.Denotes.{spells_one}
 use Rattle.ijson_number.proofs.parsing.NumberFronts.{front_within}
 use Rattle.ijson_number.proofs.parsing.SpelledBytes.{spells_bytes}
-use Rattle.ijson_json.specs.private.Reading.{Stops, NumberAt, NoNumber, PastLimitAt}
-use Rattle.ijson_json.specs.private.Explains.{NumberStops}
+use Rattle.ijson_json.specs.private.Reading.{Stops, NumberAt, PastLimitAt}
 use Rattle.ijson_json.proofs.scanning.CharBoundaries.{behind_ascii}
 
 -- a byte of a number is ASCII
@@ -69,12 +68,6 @@ number_taken text count f n rest a =
     let taken : take count text ≡ front = ap (λ k. take k text) e ∙ ap (take (length front)) a.found.is ∙ take-append_seam front rest in
     let left : drop count text ≡ rest = ap (λ k. drop k text) e ∙ ap (drop (length front)) a.found.is ∙ drop-append_seam front rest in
     (subst (λ b. Spells b n) (sym taken) a.found.holds, left)
-
--- if the front spells no number, or a byte of a number follows it, the text begins with none
-pub no_number_at : (text : List ℕ) (left : ℕ) → NumberStops text left → NoNumber text
-no_number_at text left s n rest a =
-    let taken = number_taken text s.count s.front n rest a in
-    elim s.stops [ inl none ↦ none n taken.0 | inr more ↦ more (subst Stops (sym taken.1) a.stops) ]
 
 -- if the front is a number beyond the limit, each leading number is
 pub past_limit : (text : List ℕ) (count : ℕ) → IsNumberFront text count → IsPastLimit (take count text) → PastLimitAt text

@@ -1,16 +1,16 @@
 -- The content of a string, run by run and escape by escape.
-use Rattle.std.proofs.Common.{◌≡◌, ℕ, ◌≤◌, true, false, List, [], ◌∷◌, ◌++◌, length, refl, sym, ap, ◌∙◌, append_assoc, arith, eqb, inl, inr}
+use Rattle.std.proofs.Common.{◌≡◌, ℕ, true, false, List, [], ◌∷◌, ◌++◌, length, refl, sym, ap, ◌∙◌, append_assoc, eqb, inr}
 use Rattle.std.proofs.lemmas.Bool.{eqb-true}
 use Rattle.std.specs.Prelude.{◌≢◌}
-use Rattle.std.proofs.lemmas.List.{append-nil, length-append}
+use Rattle.std.proofs.lemmas.List.{append-nil}
 use Rattle.ijson_json.specs.Strings.{is_unescaped, Character, unescaped, StringBody, empty, one_more}
 use Rattle.ijson_json.specs.Grammar.{IsString}
 use Rattle.ijson_json.specs.private.Reading.{Past, Front}
-use Rattle.ijson_json.specs.private.Explains.{StringFault, StringStops}
+use Rattle.ijson_json.specs.private.Explains.{StringFault}
 use Rattle.ijson_json.specs.private.StringReading.{CharacterAt, NoCharacter, NoEscape, ContentAt, ContentStops, ContentFault}
 use Rattle.ijson_json.specs.declared.fault.Fault.{Fault}
 use Rattle.ijson_json.specs.declared.fault.Fault.TheVariants as faults
-use Rattle.ijson_json.proofs.scanning.Prefixes.{Run, not_both, heads, tails, heads_apart, past_byte}
+use Rattle.ijson_json.proofs.scanning.Prefixes.{Run, not_both, heads, heads_apart}
 use Rattle.ijson_json.proofs.grammar.StringBodies.{character_same, not_quote}
 
 -- two concatenated bodies are one
@@ -56,7 +56,7 @@ no_character b more n s m rest (w, c, e) = go c e
     go c e = heads_apart b 92 _ _ e n
 
 -- a character has bytes
-character_bytes : {w m : List ℕ} (x : List ℕ) → Character w m → [] ≡ w ++ x → ⊥
+pub character_bytes : {w m : List ℕ} (x : List ℕ) → Character w m → [] ≡ w ++ x → ⊥
 character_bytes x (unescaped {b} h) e = cc
 character_bytes x c e = cc
 
@@ -157,22 +157,3 @@ pub no_string : (text inside : List ℕ) → text ≡ 34 ∷ inside → (fault :
 no_string text inside e (faults.Syntax left) h = inr (inside, e, h)
 no_string text inside e faults.Memory h = tt
 no_string text inside e fault h = absurd h
-
--- where the content stops is in the text
-pub string_left : (text : List ℕ) (left : ℕ) → StringStops text left → left ≤ length text
-string_left text left (inl (e, p)) = omega (arith, e)
-string_left text left (inr (inside, e, c)) = omega (arith, c.left_is, ap length e, ap length c.is, length-append c.body c.rest)
-
--- and then there is no string
-pub no_string_at : (text : List ℕ) (left : ℕ) → StringStops text left → (s rest : List ℕ) → Front (λ front. IsString s front) text rest → ⊥
-no_string_at text left (inl (e, p)) s rest f = past_byte 34 text _ p (string_first text s rest f)
-no_string_at text left (inr (inside, e, c)) s rest f = go c.is_body f.holds.1
-    (sym c.is ∙ tails 34 34 _ _ (sym e ∙ string_first text s rest f))
-  where
-    behind : {i t : List ℕ} → StringBody i t → c.rest ≡ i ++ 34 ∷ rest → ⊥
-    behind empty g = c.unclosed rest g
-    behind (one_more {written} {meant} {body} d h) g =
-        c.no_character meant (body ++ 34 ∷ rest) (written, d, g ∙ append_assoc written body (34 ∷ rest))
-
-    go : {body t i u : List ℕ} → StringBody body t → StringBody i u → body ++ c.rest ≡ i ++ 34 ∷ rest → ⊥
-    go b h g = let (u, (i, is, same)) = content_behind c.rest rest b h g in behind is same

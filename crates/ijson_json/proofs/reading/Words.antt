@@ -1,6 +1,6 @@
 -- The words `null`, `true` and `false`: reading one, and why there is none.
-use Rattle.std.proofs.Common.{◌≡◌, ℕ, ◌≤◌, Bool, true, false, List, ◌∷◌, ◌++◌, refl, sym, ap, ◌∙◌, arith, inl, inr}
-use Rattle.std.specs.Prelude.{◌≢◌, Result, MatchResult}
+use Rattle.std.proofs.Common.{◌≡◌, ℕ, ◌≤◌, Bool, true, false, List, ◌∷◌, ◌++◌, refl, ap, ◌∙◌, arith, inl, inr}
+use Rattle.std.specs.Prelude.{Result, MatchResult}
 use Rattle.std.specs.Borrow.{Bor}
 use Rattle.std.proofs.lemmas.Result.{MatchResult-weaker}
 use Rattle.ijson_string.specs.Cache.{Texts}
@@ -10,11 +10,10 @@ use Rattle.ijson_value.specs.WellFormed.{WellFormed}
 use Rattle.ijson_json.specs.AreShared.{AreShared}
 use Rattle.ijson_json.specs.Grammar.{IsValue, null_text, boolean_text}
 use Rattle.ijson_json.specs.Limits.{max_depth}
-use Rattle.ijson_json.specs.private.Reading.{Front, NoValue, ReadAs}
-use Rattle.ijson_json.specs.private.Explains.{Explains, WordFault, ScalarFault}
+use Rattle.ijson_json.specs.private.Reading.{Front, ReadAs}
+use Rattle.ijson_json.specs.private.Explains.{WordFault, ScalarFault}
 use Rattle.ijson_json.specs.private.ReadsScalar.{ReadsScalar}
 use Rattle.ijson_json.specs.declared.fault.Fault.{Fault}
-use Rattle.ijson_json.specs.declared.fault.Fault.TheVariants as faults
 use Rattle.ijson_json.proofs.scanning.Prefixes.{heads_apart}
 use Rattle.ijson_json.proofs.grammar.FirstBytes.{kind_at}
 use Rattle.ijson_json.proofs.reading.CacheContents.{adds_none}
@@ -79,17 +78,6 @@ word_shares (boolean a) flat cache = tt
 word_shares t flat cache = absurd (omega arith)
 
 module _ {b : ℕ} {word : List ℕ} {t : Tree} (w : Word b word t) where
-  -- a text that begins with the byte but not with the word begins with no value
-  word_alone : (text more : List ℕ) → text ≡ b ∷ more → ((rest : List ℕ) → text ≢ word ++ rest) → NoValue text
-  word_alone text more e n u x stops g =
-      n x (g.is ∙ ap (λ (l : List ℕ). l ++ x) (w.alone u more x (record { front = g.front; holds = g.holds; is = sym e ∙ g.is })))
-
-  -- a fault in the word
-  pub word_fault : (opened : ℕ) (text more : List ℕ) (fault : Fault) → text ≡ b ∷ more → WordFault text word fault
-      → Explains opened text fault
-  word_fault opened text more (faults.Syntax left) e h = (omega (arith, h.2), word_alone text more e h.3)
-  word_fault opened text more fault e h = absurd h
-
   -- the result of reading a text that may begin with the word
   pub word_reads : (answer : Result (WellFormed × Bor (List ℕ)) Fault) (value : WellFormed) (cache : Texts) (text : List ℕ) (first : ℕ)
       (more : List ℕ) → text ≡ first ∷ more → first ≡ b → value.tree ≡ t

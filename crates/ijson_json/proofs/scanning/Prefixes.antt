@@ -1,10 +1,8 @@
 -- Leading runs of bytes that pass a test.
-use Rattle.std.proofs.Common.{◌≡◌, ℕ, ◌≤◌, Bool, true, false, List, [], ◌∷◌, ◌++◌, length, refl, sym, ap, ◌∙◌, eqb, eq-eqb}
-use Rattle.std.proofs.Common.{arith}
+use Rattle.std.proofs.Common.{◌≡◌, ℕ, Bool, true, false, List, [], ◌∷◌, ◌++◌, refl, sym, ap, ◌∙◌, eqb, eq-eqb}
 use Rattle.std.specs.Prelude.{IsTrue, ◌==◌}
 use Rattle.std.specs.List.{AllByRecursion}
-use Rattle.std.proofs.lemmas.List.{length-append}
-use Rattle.ijson_json.specs.private.Reading.{Closes, Front, Past, Skips}
+use Rattle.ijson_json.specs.private.Reading.{Closes, Past, Skips}
 
 -- each byte passes
 abbrev pub Run : (ℕ → Bool) → List ℕ → Type 0
@@ -52,14 +50,6 @@ run_same p (c ∷ a) (d ∷ b) x y ra rb px py e =
 pub all-append : (P : ℕ → Type 0) (a b : List ℕ) → AllByRecursion P a → AllByRecursion P b → AllByRecursion P (a ++ b)
 all-append P [] b ra rb = rb
 all-append P (c ∷ a) b ra rb = (ra.0, all-append P a b ra.1 rb)
-
--- the text after a prefix is no longer than the whole
-pub front_shorter : (P : List ℕ → Type 0) (text rest : List ℕ) → Front P text rest → length rest ≤ length text
-front_shorter P text rest f = omega (arith, ap length f.is, length-append f.front rest)
-
--- nor is the text after white space
-pub skips_shorter : (text rest : List ℕ) → Skips text rest → length rest ≤ length text
-skips_shorter text rest s = omega (arith, ap length s.is, length-append s.space rest)
 
 -- white space was skipped, and the closing byte follows it
 pub closes : (closing : ℕ) (text start rest : List ℕ) → Skips text start → start ≡ closing ∷ rest → Closes closing text rest

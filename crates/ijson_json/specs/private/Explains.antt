@@ -1,41 +1,43 @@
 -- The meaning of the faults of the reader's private functions for the text.
-use Rattle.std.specs.Prelude.{◌≡◌, ◌≢◌, ◌==◌, ◌⊎◌, ℕ, ◌+◌, ◌-◌, ◌<◌, ◌≤◌, true, false, List, ◌∷◌, ◌++◌, ⊤, length, take, drop, Result, Ok, Err}
+use Rattle.std.specs.Prelude.{◌≡◌, ◌≢◌, ◌==◌, ◌⊎◌, ℕ, ◌-◌, true, false, List, ◌∷◌, ◌++◌, ⊤, length, take, drop, Result, Ok, Err}
 use Rattle.ijson_number.specs.Decimal.{Decimal}
+use Rattle.ijson_number.specs.Num.{is_in_range}
 use Rattle.ijson_number.specs.Grammar.{Spells}
 use Rattle.ijson_number.specs.NumberFront.{IsNumberFront, IsUnread}
 use Rattle.ijson_number.specs.declared.number.ReadNumberError.TheVariants.{OutOfRange}
-use Rattle.ijson_value.specs.Tree.{Tree, depth}
 use Rattle.ijson_value.specs.WellFormed.{WellFormed}
-use Rattle.ijson_json.specs.Ranged.{is_ranged}
-use Rattle.ijson_json.specs.Grammar.{Accepted, IsString, IsValue, null_text, boolean_text}
-use Rattle.ijson_json.specs.private.Reading.{Past, Stops, Skips, Front, Pair, NoneAt, Beyond}
+use Rattle.ijson_json.specs.Grammar.{Accepted, IsString, null_text, boolean_text}
+use Rattle.ijson_json.specs.ErrorOf.{IsErrorOf}
+use Rattle.ijson_json.specs.private.Reading.{Past, Stops, Skips, Front}
+use Rattle.ijson_json.specs.private.Contexts.{ValueContext, MemberContext}
 use Rattle.ijson_json.specs.private.StringReading.{ContentStops}
-use Rattle.ijson_json.specs.Refuses.{Refuses}
 use Rattle.ijson_json.specs.declared.fault.Fault.{Fault}
 use Rattle.ijson_json.specs.declared.fault.Fault.TheVariants as faults
 use Rattle.ijson_json.specs.declared.fault.JsonError.{JsonError}
 use Rattle.ijson_json.specs.declared.fault.JsonError.TheVariants as errors
-use Rattle.ijson_json.specs.Limits.{max_depth}
 
--- why no value, or no member, was read at the start of the text, inside `opened` containers
-abbrev pub ExplainsOf :
-    (E : Type 0) → (E → List ℕ → Type 0) → (E → Tree) → ℕ → List ℕ → Fault → Type 0
-ExplainsOf E Is inner opened text (faults.Syntax left) = (left ≤ length text) × NoneAt E Is text
-ExplainsOf E Is inner opened text (faults.TooDeep left) =
-    (left ≤ length text)
-    × Beyond E Is inner (λ t. max_depth < opened + depth t) (λ t. opened + depth t ≡ max_depth + 1) text
-ExplainsOf E Is inner opened text (faults.NumberRange left) =
-    (left ≤ length text)
-    × Beyond E Is inner (λ t. is_ranged t ≡ false) (λ t. is_ranged t ≡ false) text
-ExplainsOf E Is inner opened text faults.Memory = ⊤
+-- the error for a fault in a text of `length` bytes, of which `left` remained
+abbrev pub error_of : ℕ → Fault → JsonError
+error_of length (faults.Syntax left) = errors.Syntax (length - left)
+error_of length (faults.TooDeep left) = errors.TooDeep (length - left)
+error_of length (faults.NumberRange left) = errors.NumberRange (length - left)
+error_of length faults.Memory = errors.Memory
 
+-- an error that a text is rejected with, other than a lack of memory, is the error of the text
+abbrev pub Rejects : List ℕ → JsonError → Type 0
+Rejects text error = error ≢ errors.Memory → IsErrorOf text error
+
+-- a fault of a whole text
+abbrev pub RejectsBy : List ℕ → Fault → Type 0
+RejectsBy text fault = Rejects text (error_of (length text) fault)
+
+-- why no value was read here: in each text in which it is inside `opened` containers, the fault is the error of that text
 abbrev pub Explains : ℕ → List ℕ → Fault → Type 0
-Explains opened text fault =
-    ExplainsOf Tree (λ t value. IsValue t value) (λ t. t) opened text fault
+Explains opened text fault = (before : List ℕ) → ValueContext opened before text → RejectsBy (before ++ text) fault
 
+-- why no member was read here
 abbrev pub ExplainsMember : ℕ → List ℕ → Fault → Type 0
-ExplainsMember opened text fault =
-    ExplainsOf (List ℕ × Tree) (λ m text. Pair m text) (λ m. m.1) opened text fault
+ExplainsMember opened text fault = (before : List ℕ) → MemberContext opened before text → RejectsBy (before ++ text) fault
 
 -- the first `count` bytes of the text and the word are the same, and the next are not, if both have one
 pub record CommonFront (text word : List ℕ) (count : ℕ) : Type 0 where
@@ -67,12 +69,13 @@ StringFault text (faults.TooDeep left) = ⊥
 StringFault text (faults.NumberRange left) = ⊥
 StringFault text faults.Memory = ⊤
 
--- the bytes with which some number begins are none, or a byte of a number follows them
+-- the bytes with which some number begins are no number, or one within the limit that a byte of a number follows
 pub record NumberStops (text : List ℕ) (left : ℕ) : Type 0 where
   pub count : ℕ
   pub front : IsNumberFront text count
   pub left_is : left ≡ length text - count
-  pub stops : ((n : Decimal) → Spells (take count text) n → ⊥) ⊎ (Stops (drop count text) → ⊥)
+  pub stops : ((n : Decimal) → Spells (take count text) n → ⊥)
+      ⊎ ((n : Decimal) × Spells (take count text) n × (is_in_range n ≡ true) × (Stops (drop count text) → ⊥))
 
 -- where there is no number, or one beyond the limit
 abbrev pub NumberFault : List ℕ → Fault → Type 0
@@ -110,14 +113,7 @@ KeyFault text (faults.TooDeep left) = ⊥
 KeyFault text (faults.NumberRange left) = ⊥
 KeyFault text faults.Memory = ⊤
 
--- the error for a fault in a text of `length` bytes, of which `left` remained
-abbrev pub error_of : ℕ → Fault → JsonError
-error_of length (faults.Syntax left) = errors.Syntax (length - left)
-error_of length (faults.TooDeep left) = errors.TooDeep (length - left)
-error_of length (faults.NumberRange left) = errors.NumberRange (length - left)
-error_of length faults.Memory = errors.Memory
-
 -- the result of reading a whole text
 abbrev pub Answers : List ℕ → Result WellFormed JsonError → Type 0
 Answers text (Ok value) = Accepted text value.tree
-Answers text (Err error) = Refuses text error
+Answers text (Err error) = Rejects text error

@@ -1,5 +1,5 @@
 -- The results of the reader's private functions at the start of a text.
-use Rattle.std.specs.Prelude.{◌≡◌, ◌==◌, ℕ, ◌+◌, ◌<◌, ◌≤◌, Bool, true, false, List, [], ◌∷◌, ◌++◌, ⊤}
+use Rattle.std.specs.Prelude.{◌≡◌, ◌==◌, ℕ, ◌+◌, ◌≤◌, Bool, true, false, List, [], ◌∷◌, ◌++◌, ⊤}
 use Rattle.ijson_number.specs.Decimal.{Decimal}
 use Rattle.ijson_number.specs.Num.{is_in_range}
 use Rattle.ijson_number.specs.Grammar.{Spells}
@@ -8,7 +8,7 @@ use Rattle.ijson_number.specs.NumberFront.{IsPastLimit}
 use Rattle.ijson_value.specs.Tree.{Tree, null, boolean, number, string, array, object, depth}
 use Rattle.ijson_json.specs.Ranged.{is_ranged}
 use Rattle.ijson_json.specs.Settled.{settled}
-use Rattle.ijson_json.specs.Grammar.{is_space, IsSpace, IsString, IsValue, IsClosers}
+use Rattle.ijson_json.specs.Grammar.{is_space, IsSpace, IsString, IsValue}
 use Rattle.ijson_json.specs.Limits.{max_depth}
 
 -- the first byte, if any, does not pass
@@ -49,25 +49,6 @@ pub record Found (E : Type 0) (Is : E → List ℕ → Type 0) (inner : E → Tr
   pub ends : Ends (inner e) rest
   pub deep : opened + depth (inner e) ≤ max_depth
   pub ranged : is_ranged (inner e) ≡ true
-
--- Each value that the text could begin with is Bad, and some beginning of the text, completed by brackets, is a value that is Worst.
-pub record Beyond (E : Type 0) (Is : E → List ℕ → Type 0) (inner : E → Tree)
-    (Bad Worst : Tree → Type 0) (text : List ℕ) : Type 0 where
-  pub each : (e : E) (rest : List ℕ)
-      → Stops rest → Front (λ text. Is e text) text rest → Bad (inner e)
-  pub beginning : List ℕ
-  pub others : List ℕ
-  pub closers : List ℕ
-  pub is : text ≡ beginning ++ others
-  pub closing : IsClosers closers
-  pub element : E
-  pub spelled : Is element (beginning ++ closers)
-  pub worst : Worst (inner element)
-
--- no value, or no member, at the start
-abbrev pub NoneAt : (E : Type 0) → (E → List ℕ → Type 0) → List ℕ → Type 0
-NoneAt E Is text =
-    (e : E) (rest : List ℕ) → Stops rest → Front (λ text. Is e text) text rest → ⊥
 
 -- a key, `:` and a value
 pub record Pair (m : List ℕ × Tree) (text : List ℕ) : Type 0 where
@@ -116,23 +97,10 @@ pub record IsStuck (closing : ℕ) (text left : List ℕ) : Type 0 where
 abbrev pub IsRead : ℕ → List ℕ → Tree → List ℕ → Type 0
 IsRead opened text t rest = Found Tree (λ t value. IsValue t value) (λ t. t) opened text t rest
 
-abbrev pub IsBeyond : (Tree → Type 0) → (Tree → Type 0) → List ℕ → Type 0
-IsBeyond Bad Worst text = Beyond Tree (λ t value. IsValue t value) (λ t. t) Bad Worst text
-
-abbrev pub NoValue : List ℕ → Type 0
-NoValue text = NoneAt Tree (λ t value. IsValue t value) text
-
 -- the tree read, from one as written
 abbrev pub ReadAs : ℕ → List ℕ → Tree → List ℕ → Type 0
 ReadAs opened text tree rest =
     (written : Tree) × IsRead opened text written rest × (tree ≡ settled written)
-
-abbrev pub IsTooDeep : ℕ → List ℕ → Type 0
-IsTooDeep opened text =
-    IsBeyond (λ t. max_depth < opened + depth t) (λ t. opened + depth t ≡ max_depth + 1) text
-
-abbrev pub IsOutOfRange : List ℕ → Type 0
-IsOutOfRange text = IsBeyond (λ t. is_ranged t ≡ false) (λ t. is_ranged t ≡ false) text
 
 -- a number at the start, which the text after it does not continue
 pub record NumberAt (text : List ℕ) (n : Decimal) (rest : List ℕ) : Type 0 where
@@ -147,7 +115,3 @@ pub record PastLimitAt (text : List ℕ) : Type 0 where
   pub each : (n : Decimal) (rest : List ℕ) → NumberAt text n rest → is_in_range n ≡ false
   pub rest : List ℕ
   pub beginning : Front IsPastLimit text rest
-
--- no number at the start
-abbrev pub NoNumber : List ℕ → Type 0
-NoNumber text = (n : Decimal) (rest : List ℕ) → NumberAt text n rest → ⊥

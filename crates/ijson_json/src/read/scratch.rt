@@ -29,7 +29,7 @@ pub(crate) struct Scratch {
 }
 
 /// Pushes `read`, and reads the delimiter after it, in a container that `closing` closes.
-#[tactic(auto, using(crate::proofs::reading::ElementFaults::behind_element))]
+#[tactic(auto, using(crate::proofs::faults::ElementFaults::behind_element))]
 #[inline(always)]
 pub(crate) fn push_read<'a, T: Drop>(
     stack: &mut Vec<T>,

@@ -1,8 +1,8 @@
-use Rattle.std.proofs.Common.{sym, eq-eqb, arith, rules}
+use Rattle.std.proofs.Common.{sym, eq-eqb, rules}
 use Rattle.std.proofs.lemmas.Bool.{eqb-true}
 use Rattle.ijson_json.proofs.scanning.Prefixes.{not_both}
 use Rattle.ijson_json.proofs.reading.CacheContents.{adds_behind}
-use Rattle.ijson_json.proofs.reading.WholeTexts.{whole, behind, refuses}
+use Rattle.ijson_json.proofs.faults.WholeTexts.{whole, behind, text_fault}
 use Rattle.ijson_json.proofs.read.read_text.Goals as goal
 
 pub returns-then-is_empty-clause-read : goal.returns-then-is_empty-clause-read
@@ -13,16 +13,15 @@ returns-then-is_empty-clause-read g c =
 
 pub returns-clause-read : goal.returns-clause-read
 returns-clause-read g c =
-    let r = c.in-Ok.ensures.answer.read in (
-      omega arith,
-      behind c.args.text.now c.skip_space-start.result.now c.in-Ok.rest.now c.skip_space-rest.result.now r.0
-          c.skip_space-start.ensures r.1 c.skip_space-rest.ensures (λ e. not_both _ (eq-eqb _ _ e) (sym c.if-is_empty.ensures)),
-    )
+    let r = c.in-Ok.ensures.answer.read in
+    let error = behind c.args.text.now c.skip_space-start.result.now c.in-Ok.rest.now c.skip_space-rest.result.now r.0
+    c.skip_space-start.ensures r.1 c.skip_space-rest.ensures (λ e. not_both _ (eq-eqb _ _ e) (sym c.if-is_empty.ensures)) in
+    search (rules, error)
 
 pub returns-in-Err-clause-read : goal.returns-in-Err-clause-read
 returns-in-Err-clause-read g c =
-    let refused = refuses c.args.text.now c.skip_space-start.result.now c.in-Err.fault c.skip_space-start.ensures c.in-Err.ensures.answer in
-    rw c.located.ensures (search (rules, refused))
+    let error = text_fault c.args.text.now c.skip_space-start.result.now c.in-Err.fault c.skip_space-start.ensures c.in-Err.ensures.answer in
+    rw c.located.ensures (search (rules, error))
 
 pub returns-then-is_empty-clause-cache : goal.returns-then-is_empty-clause-cache
 returns-then-is_empty-clause-cache g c = adds_behind c.skip_space-start.ensures c.read_value-read.ensures.cache

@@ -13,7 +13,12 @@ returns-else-stops c =
     let more : Stops (drop c.in-Ok.length c.args.text.now) → ⊥ = λ s.
     (let yes = c.stops.ensures.1 (rw c.split_at.ensures.back s) in let clash : false ≡ true = sym c.if-stops.false ∙ yes in cc) in
     let back = c.split_at.ensures.back in
-    record { count = c.in-Ok.length; front = c.in-Ok.ensures.front; left_is = grind arith; stops = inr more }
+    record {
+      count = c.in-Ok.length;
+      front = c.in-Ok.ensures.front;
+      left_is = grind arith;
+      stops = inr (c.in-Ok.number.decimal, c.in-Ok.ensures.spelled, c.in-Ok.number.is_num.in_range, more);
+    }
 
 pub returns-in-Err-Syntax : goal.returns-in-Err-Syntax
 returns-in-Err-Syntax c =

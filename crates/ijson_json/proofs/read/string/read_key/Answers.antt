@@ -3,7 +3,7 @@ use Rattle.std.proofs.lemmas.Result.{err_from_is_err_and}
 use Rattle.ijson_string.specs.Cache.{Texts}
 use Rattle.ijson_json.specs.AddsOnlyRead.{AddsOnlyRead}
 use Rattle.ijson_json.proofs.reading.CacheContents.{adds_none, string_adds, string_shared}
-use Rattle.ijson_json.proofs.reading.Values.{string_key}
+use Rattle.ijson_json.proofs.faults.KeyFaults.{string_key}
 use Rattle.ijson_json.proofs.read.string.read_key.Goals as goal
 
 pub returns-in_err-key : goal.returns-in_err-key

@@ -1,4 +1,4 @@
-use Rattle.std.proofs.Common.{◌≡◌, ◌⊎◌, inl, inr, length, List, [], ◌∷◌, ◌++◌, ◌+◌, ℕ, ap, sym, refl, ◌∙◌, arith, rules, map}
+use Rattle.std.proofs.Common.{◌≡◌, ◌⊎◌, inl, inr, List, [], ◌∷◌, ◌++◌, ◌+◌, ℕ, ap, sym, refl, ◌∙◌, arith, rules, map}
 use Rattle.std.specs.Prelude.{Result, Err}
 use Rattle.std.specs.Borrow.{Bor}
 use Rattle.std.proofs.lemmas.Result.{err_from_is_err_and}
@@ -7,47 +7,38 @@ use Rattle.ijson_value.specs.WellFormed.{WellFormed, item_trees, pair_trees}
 use Rattle.ijson_value.specs.laws.MemberTrees.{pair_tree}
 use Rattle.ijson_string.specs.Cache.{Texts}
 use Rattle.ijson_json.specs.AddsOnlyRead.{AddsOnlyRead}
-use Rattle.ijson_json.specs.Limits.{max_depth}
 use Rattle.ijson_json.specs.declared.fault.Fault.{Fault}
-use Rattle.ijson_json.specs.declared.fault.Fault.TheVariants.{TooDeep, Memory}
+use Rattle.ijson_json.specs.declared.fault.Fault.TheVariants.{Memory}
 use Rattle.ijson_json.specs.declared.read.scratch.Scratch.{Scratch}
-use Rattle.ijson_json.specs.private.Explains.{Explains}
 use Rattle.ijson_json.specs.private.ReadsValue.{ReadsValue}
 use Rattle.ijson_json.proofs.grammar.ElementShapes.{items_shape, members_shape}
 use Rattle.ijson_json.proofs.reading.ArraysAndObjects.{arrays, objects}
 use Rattle.ijson_json.proofs.reading.CacheContents.{adds_none, adds_behind_key, shared_more}
-use Rattle.ijson_json.proofs.reading.ElementFaults.{bracket_too_deep, element_fault, push_fault}
 use Rattle.ijson_json.proofs.reading.Elements.{empty_read}
 use Rattle.ijson_json.proofs.reading.Gathering.{gathered_start, gathered_adds, gathered_refused, gathered_more, gathered_end}
 use Rattle.ijson_json.proofs.reading.GatheredTrees.{kept_items, kept_members}
-use Rattle.ijson_json.proofs.reading.Members.{member_read, member_fault}
-use Rattle.ijson_json.proofs.reading.Values.{begins, key_fault, no_character, scalar_read}
+use Rattle.ijson_json.proofs.reading.Members.{member_read}
+use Rattle.ijson_json.proofs.faults.ElementFaults.{bracket_too_deep, element_fault, push_fault}
+use Rattle.ijson_json.proofs.faults.KeyFaults.{key_fault, member_fault}
+use Rattle.ijson_json.proofs.faults.ScalarFaults.{begins, out_of_memory, no_character, scalar_read}
 use Rattle.ijson_json.proofs.read.value.+read.Goals as goal
 use Rattle.ijson_json.proofs.read.value.+read.Goals.{read_container-then-first-eq91, read_container-else-first-eq91}
 
 -- ---- a value
 pub read_value-returns-in_default : goal.read_value-returns-in_default
-read_value-returns-in_default g t c = record {
-  cache = adds_none c.args.text.now c.args.cache.now;
-  answer = (omega arith, no_character c.args.text.now c.in_default.ensures.cases);
-}
+read_value-returns-in_default g t c =
+    let error = no_character c.args.opened c.args.text.now c.in_default.ensures.cases in
+    record { cache = adds_none c.args.text.now c.args.cache.now; answer = search (rules, error) }
 
 pub read_value-returns : goal.read_value-returns
 read_value-returns g t c =
     scalar_read c.args.opened c.args.text.now c.read_scalar.result _ _ _ _ (omega arith) refl refl c.read_scalar.ensures
 
 -- ---- a container
-container_too_deep : (opened : ℕ) (text inside : List ℕ) (first : ℕ) → text ≡ first ∷ inside → (first ≡ 91) ⊎ (first ≡ 123)
-    → opened ≡ max_depth → Explains opened text (TooDeep (length text))
-container_too_deep opened text inside first begins (inl is) deep =
-    bracket_too_deep Tree items_shape arrays opened text inside deep (rw is at begins)
-container_too_deep opened text inside first begins (inr is) deep =
-    bracket_too_deep (List ℕ × Tree) members_shape objects opened text inside deep (rw is at begins)
-
 pub read_container-returns-then-opened-eq-MAX_DEPTH : goal.read_container-returns-then-opened-eq-MAX_DEPTH
 read_container-returns-then-opened-eq-MAX_DEPTH g t c = record {
   cache = adds_none c.args.text.now c.args.cache.now;
-  answer = container_too_deep c.args.opened c.args.text.now c.args.inside.now c.args.first (search rules) (search rules)
+  answer = bracket_too_deep c.args.opened c.args.text.now c.args.inside.now c.args.first (search rules) (search rules)
       c.if-opened-eq-MAX_DEPTH.true;
 }
 
@@ -130,7 +121,7 @@ read_array-loop-item-preserved g t c =
 
 pub read_array-returns-in_err-items-in-End : goal.read_array-returns-in_err-items-in-End
 read_array-returns-in_err-items-in-End g t c =
-    gathered_refused c.loop-item.invariant.read Memory c.from_residual-in_err-items-in-End.ensures.1 c.read_value.ensures.cache tt
+    gathered_refused c.loop-item.invariant.read Memory c.from_residual-in_err-items-in-End.ensures.1 c.read_value.ensures.cache (out_of_memory c.args.opened (91 ∷ c.args.inside.now))
 
 pub read_array-returns-in-End : goal.read_array-returns-in-End
 read_array-returns-in-End g t c =
@@ -218,7 +209,7 @@ read_object-loop-key-preserved g t c =
 pub read_object-returns-in_err-object-in-End : goal.read_object-returns-in_err-object-in-End
 read_object-returns-in_err-object-in-End g t c =
     gathered_refused c.loop-key.invariant.read Memory c.from_residual-in_err-object-in-End.ensures.1
-    (adds_behind_key c.in_ok-key.ensures.answer.read (search rules) c.read_value.ensures.cache) tt
+    (adds_behind_key c.in_ok-key.ensures.answer.read (search rules) c.read_value.ensures.cache) (out_of_memory c.args.opened (123 ∷ c.args.inside.now))
 
 pub read_object-returns-in-End : goal.read_object-returns-in-End
 read_object-returns-in-End g t c =

@@ -1,0 +1,48 @@
+-- The bytes before a value, or before a member of an object, and how each text continues after them.
+use Rattle.std.specs.Prelude.{◌≡◌, ℕ, ◌+◌, ◌≤◌, true, List, [], ◌∷◌, ◌++◌}
+use Rattle.ijson_value.specs.Tree.{Tree, depth}
+use Rattle.ijson_json.specs.Ranged.{is_ranged}
+use Rattle.ijson_json.specs.Grammar.{IsSpace, Spaced, IsValue, IsClosers}
+use Rattle.ijson_json.specs.Inside.{EachWithComma, Inside, IsMember, IsValuePlace}
+use Rattle.ijson_json.specs.Limits.{max_depth}
+use Rattle.ijson_json.specs.private.Reading.{Front, Pair, Stops}
+
+-- the second text begins with the same byte as the first, or both are empty
+abbrev pub StartsAs : List ℕ → List ℕ → Type 0
+StartsAs [] text = text ≡ []
+StartsAs (b ∷ rest) text = (more : List ℕ) × (text ≡ b ∷ more)
+
+-- a JSON text, which is within each limit if the value inside `opened` containers is
+pub record Built (opened : ℕ) (value : Tree) (text : List ℕ) : Type 0 where
+  pub tree : Tree
+  pub spelled : Spaced (λ text. IsValue tree text) text
+  pub deep : opened + depth value ≤ max_depth → depth tree ≤ max_depth
+  pub ranged : is_ranged value ≡ true → is_ranged tree ≡ true
+
+-- An element may begin after the bytes `before`, inside `opened` containers. In each JSON text that continues them with the first byte of
+-- `text`, an element begins there. Any element and the closing brackets complete them.
+pub record Context (E : Type 0) (Is : E → List ℕ → Type 0) (inner : E → Tree) (IsPlace : ℕ → List ℕ → Type 0)
+    (opened : ℕ) (before text : List ℕ) : Type 0 where
+  pub within : opened ≤ max_depth
+  pub place : IsPlace opened before
+  pub only : (t : Tree) (next : List ℕ) → StartsAs text next → Spaced (λ value. IsValue t value) (before ++ next)
+      → (e : E) × (rest : List ℕ) × Front (λ text. Is e text) next rest × Stops rest
+  pub closers : List ℕ
+  pub closing : IsClosers closers
+  pub builds : (e : E) (written : List ℕ) → Spaced (λ text. Is e text) written → Built opened (inner e) (before ++ (written ++ closers))
+
+abbrev pub ValueContext : ℕ → List ℕ → List ℕ → Type 0
+ValueContext opened before text = Context Tree (λ t value. IsValue t value) (λ t. t) IsValuePlace opened before text
+
+-- the beginning of an object, after which a member may follow
+abbrev pub IsOpenObject : List ℕ → Type 0
+IsOpenObject text =
+    (gap members space : List ℕ) × IsSpace gap × EachWithComma IsMember members × IsSpace space
+    × (text ≡ gap ++ 123 ∷ (members ++ space))
+
+-- a member may begin after these bytes
+abbrev pub IsMemberPlace : ℕ → List ℕ → Type 0
+IsMemberPlace opened before = (outer : ℕ) × (opened ≡ outer + 1) × Inside IsOpenObject outer before
+
+abbrev pub MemberContext : ℕ → List ℕ → List ℕ → Type 0
+MemberContext opened before text = Context (List ℕ × Tree) (λ m text. Pair m text) (λ m. m.1) IsMemberPlace opened before text
