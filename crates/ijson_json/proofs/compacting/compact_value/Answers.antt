@@ -14,6 +14,7 @@ use Rattle.ijson_json.specs.Compacts.{WritesLine, BeginsLine, AddsOnlyLeft}
 use Rattle.ijson_json.specs.Grammar.{Accepted}
 use Rattle.ijson_json.specs.Print.{print}
 use Rattle.ijson_json.specs.Refuses.{Refuses}
+use Rattle.ijson_json.specs.ErrorOf.{IsErrorOf}
 use Rattle.ijson_json.specs.WritesBeginning.{WritesBeginning}
 use Rattle.ijson_json.specs.declared.compacting.CompactError.{CompactError}
 use Rattle.ijson_json.specs.declared.compacting.CompactError.TheVariants as errors
@@ -109,12 +110,12 @@ said P None rest bytes is p = tt
 said P (Some xs) rest bytes is p = rw is.0 (p is.1)
 
 value_error : (left rest : Option (List ℕ)) (bytes : List ℕ) (e : JsonError) → IfSome left (λ xs. (xs ≡ bytes) × (rest ≡ Some []))
-    → IsUtf8 bytes → Refuses bytes e
+    → IsUtf8 bytes → Refuses bytes e → (e ≢ json.Memory → IsErrorOf bytes e)
     → (compact_error_of e ≢ errors.Read) × (compact_error_of e ≢ errors.NotUtf8) × (compact_error_of e ≢ errors.Write)
     × (compact_error_of e ≢ errors.Json json.Memory) × IfSome left (λ xs. IsCompactRefusal xs (compact_error_of e))
-value_error left rest bytes json.Memory is utf8 why = ((λ q. cc), (λ q. cc), (λ q. cc), (λ q. cc), unsaid left)
-value_error left rest bytes e is utf8 why =
-    ((λ q. cc), (λ q. cc), (λ q. cc), (λ q. cc), said _ left rest bytes is (λ _. (utf8, why)))
+value_error left rest bytes json.Memory is utf8 why error = ((λ q. cc), (λ q. cc), (λ q. cc), (λ q. cc), unsaid left)
+value_error left rest bytes e is utf8 why error =
+    ((λ q. cc), (λ q. cc), (λ q. cc), (λ q. cc), said _ left rest bytes is (λ _. (utf8, why, error (λ q. cc))))
 
 pub returns-in_err-value : goal.returns-in_err-value
 returns-in_err-value g c =
@@ -125,7 +126,7 @@ returns-in_err-value g c =
     let bytes = c.as_str.result.now in
     let text = c.in_ok-text.ensures.text in
     let all = all_read left rest bytes (rw c.as_str.ensures.value text.1) text.2 in
-    let error = value_error left rest bytes e all (rw c.as_str.ensures.value text.0) c.in_err-value.ensures.refused in
+    let error = value_error left rest bytes e all (rw c.as_str.ensures.value text.0) c.in_err-value.ensures.refused c.in_err-value.ensures.error in
     unwritten c.from_residual-in_err-value.result left rest (g.W.Sink.got c.args.output.now) _ _ (g.W.Sink.failed c.args.output.now)
     c.args.cache.now c.from_json.new.cache (compact_error_of e) (p.1 ∙ ap Err p.2)
     ((λ q. absurd (error.0 q)), (λ l. let q = c.in_ok-text.ensures.read.1 l in cc)) error.2 error.3 error.4
