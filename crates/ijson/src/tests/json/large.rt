@@ -2,12 +2,10 @@
 
 use super::devices::fail_after_each_byte;
 use super::texts::{
-    KINDS, REPEATED, WRITTEN, all_fail_by, all_hold, fail_after, fails, is_rewritten,
-    repeated_are_rewritten,
+    REPEATED, WRITTEN, all_fail_by, all_hold, is_rewritten, repeated_are_rewritten,
 };
 use super::values::is_copied_deep;
 use super::{Parts, numbered, repeated};
-use crate::json::JsonError;
 use crate::tests::support::{is_written, parsed};
 use std::alloc::AllocError;
 
@@ -52,23 +50,6 @@ fn many_elements(rt: HostRuntime) {
     let value = parsed(&rt, rt.alloc(), text.as_str());
     is_written(&rt, rt.alloc(), &value, text.as_str());
     drop(value);
-}
-
-#[test]
-fn errors_after_70_000_bytes(rt: HostRuntime) {
-    let zeros = repeated(&rt, rt.alloc(), &("[", "0,", 35_000, "", "", ""));
-    let spaces = repeated(
-        &rt,
-        rt.alloc(),
-        &("{\"é\":[\"東京\",", " \n", 35_000, "", "", ""),
-    );
-    for front in [zeros.as_str(), spaces.as_str()] {
-        fail_after(&rt, rt.alloc(), front, &KINDS);
-    }
-    let deep = repeated(&rt, rt.alloc(), &("", "[\n", 127, "", "]", "]"));
-    let text = granted!(&rt; format!(in rt.alloc(); "{zeros}{deep}"));
-    let at = 70_001 + 2 * 126;
-    fails(&rt, rt.alloc(), text.as_str(), JsonError::TooDeep { at });
 }
 
 #[test]

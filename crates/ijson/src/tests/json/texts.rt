@@ -72,28 +72,14 @@ static VALUES: [(&str, Is); 32] = [
     (r#"[1.5,[true,{"a":"longlong","eight888":"\n"}],12345678901234567890123,null]"#, Is::Adds(&["longlong", "eight888"])),
 ];
 
-/// Texts that are not JSON, from the `|` on.
+/// A text of each kind of fault: not JSON from the `|` on, or with a number out of range at the `~`.
 #[rattlefmt::skip]
-static SYNTAX: [&str; 52] = [
-    " |", "|]", "|x", "tru|", "fals|y", "null|x", "1 |2", "[1 |2]", "[|,1]", "[1|", "[|", "{|a", "{|",
-    r#"{"a":1,|}"#, r#"{"a" |1}"#, r#"{"a":|}"#, "|\u{feff}1", "|\u{a0}1", "|\u{c}1",
-    // keys and values that own memory
-    "[[1]] |2", r#"{"a_key_of_many_bytes" |1}"#, r#"{"a_key_of_many_bytes":[[1]],|}"#,
-    // numbers
-    "1.|", "1.|x", "-|", "-|x", "|+1", "|.5", "1e|", "1e+|]", "[1E+|x]", "[1e-|x]", "1|-2", "1.5|.2", "1e5|e", "[1.|]",
-    // strings
-    "\"|", "\"abc|", "\"|\t\"", "\"a|\tb\"", "\"|\u{1f}\"", r#""|\ud83d""#, r#""|\ud834\u0041""#, r#""|\udd1e""#, r#""|\ud834x""#,
-    r#""|\x""#, r#""|\u12g4""#, r#""a|\ud834""#, r#""ab|\u12"#, r#""ab|\"#, r#""\nab|"#, r#""\nab|\x""#,
-];
-
-/// Texts of each kind of fault: not JSON from the `|` on, or with a number out of range at the `~`.
-#[rattlefmt::skip]
-pub static KINDS: [&str; 20] = [
-    "|", "nul|x", "\n1 |2", "[1,|]", r#"{"é" |1}"#, "0|1", "1e+|", "\"é|\t\"", r#""é|\ud834x""#, r#""é|\u12"#, "\"é|",
-    "~10e1073741824", "~1e-1073741825", "~1e99999999999999999999999", "~1e1073741825-", "[~1e1073741825,]", r#"{"a":~1e1073741825,"a":1}"#,
+static FAULTS: [&str; 24] = [
+    "|", "|\u{feff}1", "nul|x", "1 |2", "[1 |2]", "[1|", "[1,|]", r#"{"a":1,|}"#, r#"{"a" |1}"#, r#"{"a_key_of_many_bytes":[[1]],|}"#,
+    "0|1", "1e+|", "[1.|]", "\"é|", "\"a|\tb\"", r#""\nab|\x""#, r#""|\u12g4""#, r#""ab|\"#, r#""|\ud834\u0041""#, r#""|\udd1e""#,
+    "[~10e1073741824,]", "~1e99999999999999999999999",
     // more digits than the fast path reads
-    "~1234567890123456789012345678901234e1073741825", "~1.00000000000000000000000000000000e1073741825",
-    "[1,~-0.00000000000000000000000000000000000001e-1073741824]",
+    "~1234567890123456789012345678901234e1073741825", "[1,~-0.00000000000000000000000000000000000001e-1073741824]",
 ];
 
 /// Texts of repeated parts, which are written as they are read.
@@ -108,14 +94,8 @@ pub static REPEATED: [Parts; 7] = [
 ];
 
 /// Texts that are too deep, and the offset of the bracket.
-static DEEP: [(Parts, usize); 8] = [
-    (("", "[", 128, "", "]", ""), 127),
-    (("", "[\n", 128, "", "]", ""), 254),
+static DEEP: [(Parts, usize); 2] = [
     (("", "\n[", 128, "", "]", ""), 255),
-    (("\n ", "[", 128, " \t\n", "]", "\n"), 129),
-    (("", "{\"é\":\r\n ", 128, "null", " }", ""), 1143),
-    (("[\"é東京\u{1f600}\",", "[", 127, "", "]", "]"), 142),
-    (("", "{\"a\":", 128, "null", "}", ""), 635),
     (("{\"a\":", "[", 127, "", "]", ",\"a\":1}"), 131),
 ];
 
@@ -237,7 +217,7 @@ fn repeated_parts(rt: HostRuntime) {
 }
 
 /// Asserts that reading a text fails with this error.
-pub fn fails(rt: &impl Abort, alloc: Global, text: &str, want: JsonError) {
+fn fails(rt: &impl Abort, alloc: Global, text: &str, want: JsonError) {
     let mut found = from_json(alloc, &mut empty_cache(alloc), text).err();
     if found == Some(JsonError::Memory) {
         found = from_json(alloc, &mut empty_cache(alloc), text).err();
@@ -253,13 +233,13 @@ fn fails_by(rt: &impl Abort, alloc: Global, text: &str, want: JsonError, piece: 
     follows(rt, alloc, &mut empty_cache(alloc), text, devices, outcome);
 }
 
-/// Returns a text without its mark, after `front`, and the error at the mark.
-fn unmarked(rt: &impl Abort, alloc: Global, front: &str, marked: &str) -> (String, JsonError) {
+/// Returns a text without its mark, and the error at the mark.
+fn unmarked(rt: &impl Abort, alloc: Global, marked: &str) -> (String, JsonError) {
     let is_range = marked.contains('~');
     let mark = if is_range { '~' } else { '|' };
     let (before, after) = marked.split_once(mark).expect(rt, marked);
-    let at = front.len().saturating_add(before.len());
-    let text = granted!(rt; format!(in alloc; "{front}{before}{after}"));
+    let at = before.len();
+    let text = granted!(rt; format!(in alloc; "{before}{after}"));
     if is_range {
         (text, JsonError::NumberRange { at })
     } else {
@@ -267,31 +247,11 @@ fn unmarked(rt: &impl Abort, alloc: Global, front: &str, marked: &str) -> (Strin
     }
 }
 
-/// Asserts the errors of marked texts after `front`.
-pub fn fail_after(rt: &impl Abort, alloc: Global, front: &str, rows: &[&str]) {
-    for marked in rows {
-        let (text, error) = unmarked(rt, alloc, front, marked);
-        fails(rt, alloc, text.as_str(), error);
-    }
-}
-
 /// Asserts the errors of marked texts from devices that move `piece` bytes a call.
-pub fn fail_by(rt: &impl Abort, alloc: Global, rows: &[&str], piece: usize) {
-    for marked in rows {
-        let (text, error) = unmarked(rt, alloc, "", marked);
+fn marked_fail_by(rt: &impl Abort, alloc: Global, piece: usize) {
+    for marked in &FAULTS {
+        let (text, error) = unmarked(rt, alloc, marked);
         fails_by(rt, alloc, text.as_str(), error, piece);
-    }
-}
-
-/// Asserts that each proper prefix of a text is rejected: inside the escape at its backslash, otherwise at its end.
-fn prefixes_fail_by(rt: &impl Abort, alloc: Global, piece: usize) {
-    let text = r#"{"a":[1.5e3,"\u00e9"],"b":null}"#;
-    assert!(*rt; text.len() == 31);
-    for length in 0..31usize {
-        let prefix = text.get(..length).expect(rt, "a prefix");
-        let is_inside = 14 <= length && length <= 18;
-        let at = if is_inside { 13 } else { length };
-        fails_by(rt, alloc, prefix, JsonError::Syntax { at }, piece);
     }
 }
 
@@ -304,38 +264,13 @@ fn deep_fail_by(rt: &impl Abort, alloc: Global, piece: usize) {
 
 /// Asserts the errors of all texts that are rejected.
 pub fn all_fail_by(rt: &impl Abort, alloc: Global, piece: usize) {
-    fail_by(rt, alloc, &SYNTAX, piece);
-    fail_by(rt, alloc, &KINDS, piece);
-    prefixes_fail_by(rt, alloc, piece);
+    marked_fail_by(rt, alloc, piece);
     deep_fail_by(rt, alloc, piece);
 }
 
 #[test]
-fn syntax(rt: HostRuntime) {
-    fail_by(&rt, rt.alloc(), &SYNTAX, 3);
-}
-
-#[test]
 fn each_kind_of_error(rt: HostRuntime) {
-    fail_by(&rt, rt.alloc(), &KINDS, 3);
-    deep_fail_by(&rt, rt.alloc(), 3);
-}
-
-#[test]
-fn prefixes(rt: HostRuntime) {
-    prefixes_fail_by(&rt, rt.alloc(), 3);
-}
-
-#[test]
-fn errors_after_white_space(rt: HostRuntime) {
-    fail_after(&rt, rt.alloc(), "\n \t\r\n", &SYNTAX);
-    fail_after(&rt, rt.alloc(), "\n \t\r\n", &KINDS);
-}
-
-#[test]
-fn errors_after_a_string(rt: HostRuntime) {
-    fail_after(&rt, rt.alloc(), "[\"é東京\u{1f600}\",\n", &SYNTAX);
-    fail_after(&rt, rt.alloc(), "[\"é東京\u{1f600}\",\n", &KINDS);
+    all_fail_by(&rt, rt.alloc(), 3);
 }
 
 /// The escape that is written for each control character.
