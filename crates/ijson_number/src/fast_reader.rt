@@ -11,7 +11,7 @@ use crate::repr::stored::WORD_DIGITS;
 use crate::significand::Significand;
 use std::simd::prelude::*;
 
-/// The number of whole digits that are read one by one, before a vector: most have no more.
+/// Fewer digits are read one by one rather than by a vector.
 const FEW: usize = 4;
 
 /// The maximum number of exponent digits that this pass reads.
@@ -33,7 +33,7 @@ pub fn take_digits(number: u64, bytes: &[u8], most: usize) -> (u64, usize)
     (longer, count)
 }
 
-/// Like `take_digits`, with the first 16 bytes read as one vector.
+/// Like `take_digits`, with the digits of the first 16 bytes read as one vector, unless they are few.
 #[inline(always)]
 fn take_lanes(number: u64, bytes: &[u8], most: usize) -> (u64, usize)
     requires { (number + 1) * 10 ^ most ≤ 10 ^ 19 }
@@ -44,25 +44,15 @@ fn take_lanes(number: u64, bytes: &[u8], most: usize) -> (u64, usize)
     }
     let lanes = u8x16::from_slice(bytes);
     let count = digit_count(lanes).min(most);
+    if count < FEW {
+        return take_digits(number, bytes, count);
+    }
     let longer = number * power_of_ten(count) + number_of(lanes, count);
     if count < LANES {
         return (longer, count);
     }
     let (longest, more) = take_digits(longer, &bytes[LANES..], most - LANES);
     (longest, LANES + more)
-}
-
-/// Returns the value of up to 19 leading digits, and how many digits were read.
-#[inline(always)]
-fn take_whole(bytes: &[u8]) -> (u64, usize)
-    ensures { IsTaken 0 bytes.now 19 result.0 result.1 }
-{
-    let (number, count) = take_digits(0, bytes, FEW);
-    if count < FEW {
-        return (number, count);
-    }
-    let (longer, more) = take_lanes(number, &bytes[FEW..], WORD_DIGITS - FEW);
-    (longer, FEW + more)
 }
 
 /// Returns the maximum number of fraction digits after `count` whole digits.
@@ -121,7 +111,7 @@ fn read_mantissa(text: &[u8]) -> Option<(Front, &[u8])>
     ensures none { IfNone result ((p : Parts) (rest : List ℕ) → IsCommonFront text.now p rest → ⊥) }
 {
     let (negative, unsigned) = split_sign(text);
-    let (number, count) = take_whole(unsigned);
+    let (number, count) = take_lanes(0, unsigned, WORD_DIGITS);
     let (whole, behind) = unsigned.split_at(count);
     if !is_whole(whole) {
         return None;

@@ -1,5 +1,7 @@
 -- Leading digits that are read in steps.
 use Rattle.ijson_number.proofs.Common.{◌≡◌, ℕ, ◌+◌, ◌-◌, ◌*◌, ◌^◌, ◌<◌, ◌≤◌, min, List, length, take, drop, sym, ap, ◌∙◌, arith, pow-add, take-add}
+use Rattle.ijson_number.proofs.Common.{inl, inr, cases_lt, mul-le-mul_left}
+use Rattle.std.proofs.Math.Nat.{pow-le-pow_right}
 use Rattle.ijson_number.proofs.Common.{number_from_digits_after, mul-le-mul_right, number_after_append, number_after_lt, drop-drop, drop_more}
 use Rattle.ijson_number.proofs.Common.{length-drop, length-take-le, map-append, take-take, get_or-chunk, length-chunk, chunk, AllDigits, value}
 use Rattle.ijson_number.proofs.Common.{digits_from_text, IsCount, IsTaken}
@@ -90,3 +92,23 @@ module _ (number : ℕ) (bytes : List ℕ) (most found count : ℕ) (buffer : 16
         (λ d. is.stops (omega (arith, long, all)) (rw (← all, get_or-chunk 0 16 bytes count 0 less, at_front) d));
     value = row_value;
   }
+
+  -- few digits, read one by one
+  pub few_taken : count < 16 → (longer n : ℕ) → IsTaken number bytes count longer n → IsTaken number bytes most longer n
+  few_taken less longer n t = record {
+    few = omega (arith, few, t.few);
+    within = t.within;
+    digits = t.digits;
+    all = λ l. elim (cases_lt n count) [
+      | inl a ↦ t.all a
+      | inr a ↦ let e : n ≡ count = omega (arith, a, t.few) in rw e ((row_taken less).all (omega (arith, l, e)))
+    ];
+    value = t.value;
+  }
+
+  -- they fit where `most` fit
+  pub few_fit : (number + 1) * 10 ^ most ≤ 10 ^ 19 → (number + 1) * 10 ^ count ≤ 10 ^ 19
+  few_fit fits =
+      let less : (number + 1) * 10 ^ count ≤ (number + 1) * 10 ^ most =
+      mul-le-mul_left (number + 1) (pow-le-pow_right (omega arith) few) in
+      omega (arith, less, fits)

@@ -9,7 +9,7 @@ use Rattle.ijson_number.proofs.fast_reader.read_mantissa.Goals as goal
 
 pub take_fraction-requires-clause-room : goal.take_fraction-requires-clause-room
 take_fraction-requires-clause-room c =
-    let t = c.take_whole-number in
+    let t = c.take_lanes-number in
     let count : length (take t.result.1 c.split_sign-negative.result.1.now) ≡ t.result.1 =
     length-take-le t.result.1 c.split_sign-negative.result.1.now t.ensures.within in
     rw t.ensures.value (room_left (take t.result.1 c.split_sign-negative.result.1.now) t.result.1 t.ensures.digits count t.ensures.few)
@@ -17,7 +17,7 @@ take_fraction-requires-clause-room c =
 pub returns-clause-found : goal.returns-clause-found
 returns-clause-found c =
     let text = c.args.text.now in
-    let t = c.take_whole-number in
+    let t = c.take_lanes-number in
     let unsigned = c.split_sign-negative.result.1.now in
     let whole = c.split_at.result.0.now in
     let behind = c.split_at.result.1.now in
@@ -54,17 +54,17 @@ returns-clause-found c =
 taken : (c : After-split_at) (p : Parts) (rest : List ℕ) (f : IsCommonFront c.args.text.now p rest)
     → (c.split_at.result.0.now ≡ p.whole) × (c.split_at.result.1.now ≡ f.fraction_text ++ f.after)
 taken c p rest f =
-    let t = c.take_whole-number.ensures in
+    let t = c.take_lanes-number.ensures in
     let s = c.split_at.ensures in
     whole_taken c.args.text.now _ _ _ _ p rest _ c.split_sign-negative.ensures s.front s.back s.front_len t.digits t.all f
 
 -- the fraction has few digits
 tail : (c : After-split_at) (p : Parts) (rest : List ℕ) (f : IsCommonFront c.args.text.now p rest)
-    → IsFewFraction c.take_whole-number.result.0 c.take_whole-number.result.1 c.split_at.result.1.now f.fraction_text f.after
+    → IsFewFraction c.take_lanes-number.result.0 c.take_lanes-number.result.1 c.split_at.result.1.now f.fraction_text f.after
 tail c p rest f =
     let s = c.split_at.ensures in
-    rw (c.take_whole-number.ensures.value ∙ ap value (sym s.front))
-    (plain_tail c.args.text.now c.split_at.result.0.now c.split_at.result.1.now p rest c.take_whole-number.result.1 s.front_len f
+    rw (c.take_lanes-number.ensures.value ∙ ap value (sym s.front))
+    (plain_tail c.args.text.now c.split_at.result.0.now c.split_at.result.1.now p rest c.take_lanes-number.result.1 s.front_len f
     (taken c p rest f))
 
 pub returns-clause-rest : goal.returns-clause-rest

@@ -1,13 +1,23 @@
 use Rattle.ijson_number.proofs.Common.{◌≡◌, ℕ, ◌+◌, ◌-◌, ◌*◌, ◌^◌, ◌≤◌, min, List, length, take, drop, ap, ◌∙◌, arith, number_from_digits_after}
 use Rattle.ijson_number.proofs.Common.{length-take-le, take_rest, chunk, AllDigits, value, digits_from_text, IsCount, IsTaken}
 use Rattle.ijson_number.proofs.parsing.PrefixDigits.{at_most_16, few, room_behind, row_digits, row_in_text, row_small, row_taken, row_value}
-use Rattle.ijson_number.proofs.parsing.PrefixDigits.{taken_behind}
+use Rattle.ijson_number.proofs.parsing.PrefixDigits.{few_fit, few_taken, taken_behind}
 use Rattle.ijson_number.proofs.fast_reader.take_lanes.Goals as goal
 
 pub number_of-requires-clause-digits : goal.number_of-requires-clause-digits
 number_of-requires-clause-digits c =
     row_digits c.args.number c.args.bytes.now c.args.most c.digit_count.result c.min-count.result (omega arith) c.digit_count.ensures
     c.min-count.ensures
+
+pub take_digits-requires-then-count-lt-FEW : goal.take_digits-requires-then-count-lt-FEW
+take_digits-requires-then-count-lt-FEW c =
+    few_fit c.args.number c.args.bytes.now c.args.most c.digit_count.result c.min-count.result (omega arith) c.digit_count.ensures
+    c.min-count.ensures c.requires
+
+pub returns-then-count-lt-FEW : goal.returns-then-count-lt-FEW
+returns-then-count-lt-FEW c =
+    few_taken c.args.number c.args.bytes.now c.args.most c.digit_count.result c.min-count.result (omega arith) c.digit_count.ensures
+    c.min-count.ensures (omega arith) _ _ c.take_digits-then-count-lt-FEW.ensures
 
 pub overflow_mul-longer : goal.overflow_mul-longer
 overflow_mul-longer c =
