@@ -22,11 +22,8 @@ static BACK: [u8; 2 * LANES] = [
     5, 6, 7, 8, 9, 10, 11, 12, 13, 14, 15,
 ];
 
-/// The weight of each of four digits in hundreds.
-const HUNDREDS: [u8; LANES] = [10, 1, 0, 0, 10, 1, 0, 0, 10, 1, 0, 0, 10, 1, 0, 0];
-
-/// The weight of each of four digits below the hundreds.
-const UNITS: [u8; LANES] = [0, 0, 10, 1, 0, 0, 10, 1, 0, 0, 10, 1, 0, 0, 10, 1];
+/// The weight of each byte of two pairs, whose upper bytes do not count.
+const PAIRS: [u8; LANES] = [100, 0, 1, 0, 100, 0, 1, 0, 100, 0, 1, 0, 100, 0, 1, 0];
 
 /// The powers of ten by their exponent.
 static POWERS: [u64; LANES + 1] = [
@@ -79,9 +76,10 @@ fn number_of_lanes(digits: u8x16) -> u64
     requires digits { AllBelowBase 10 digits }
     ensures { result ≡ number_from_digits 10 digits }
 {
-    let hundreds = digits.dot4(u8x16::from_array(HUNDREDS));
-    let units = digits.dot4(u8x16::from_array(UNITS));
-    let [a, b, c, d] = (hundreds * u32x4::splat(100) + units).to_array();
+    let twos = u16x8::from_le_bytes(digits);
+    // the lower byte of each lane is a pair
+    let pairs = (twos * u16x8::splat(10) + (twos >> 8)).to_le_bytes();
+    let [a, b, c, d] = pairs.dot4(u8x16::from_array(PAIRS)).to_array();
     let front = u64::from(a) * 10_000 + u64::from(b);
     let back = u64::from(c) * 10_000 + u64::from(d);
     front * 100_000_000 + back

@@ -1,13 +1,15 @@
 -- Lanes of a vector: moved to either end, and read as digits.
 use Rattle.ijson_number.proofs.Common.{◌≡◌, ℕ, zero, suc, ◌-◌, ◌<◌, ◌≤◌, Bool, true, ◌&&◌, ◌||◌, T, ltb, map, get_or, replicate, List, [], ◌∷◌, ◌++◌}
 use Rattle.ijson_number.proofs.Common.{length, take, drop, refl, sym, subst, ◌∙◌, inl, inr, arith, ⊤, range_with_len, cases_lt, ext_get_or, swz_l}
-use Rattle.ijson_number.proofs.Common.{SwzOk, SwzOk-from_Each1, Each1, chunk, w8, zeroes, rules, ◌+◌, ◌*◌, ◌%◌, ◌^◌, false, cond, ap, ap₂, not}
+use Rattle.ijson_number.proofs.Common.{SwzOk, SwzOk-from_Each1, Each1, chunk, w8, zeroes, rules, ◌/◌, ◌+◌, ◌*◌, ◌%◌, ◌^◌, false, cond, ap, ap₂, not}
 use Rattle.ijson_number.proofs.Common.{number_from_digits, AllBelowBase, prefix_len, nat_tests, length-map, length-zip2, map-map, zip2_splat}
 use Rattle.ijson_number.proofs.Common.{zip2_splat_left, zip2_of_maps, mask_l-mod, leading_from_mask_l, trailing_mask_l, dots, mask_l, top, zip2}
 use Rattle.ijson_number.proofs.Common.{AllDigits, IsDigit, value, digits_from_text, IsCount}
 use Rattle.std.proofs.lemmas.List.FromFn.{length-map-range_with_len, get_or-map-range_with_len}
 use lib.Ieee.Fits.{and_l, and_r}
-use Rattle.ijson_number.specs.declared.lanes.TheConstants.{BACK, FRONT, HUNDREDS, POWERS, UNITS}
+use lib.Dec.{lt→ltb}
+use lib.Lanes.{all_below, digits_l, number_l, pair_sums, products}
+use Rattle.ijson_number.specs.declared.lanes.TheConstants.{BACK, FRONT, PAIRS, POWERS}
 use Rattle.std.proofs.lemmas.List.Sums.{prefix_len-le-length, prefix_len_passes, prefix_len_stops}
 use lib.Bits.{bit_or}
 use lib.Count.{count_trailing_zeros}
@@ -84,8 +86,60 @@ pub moved_to_front : (start : ℕ) → start ≤ 16 → (xs : List ℕ) → leng
     → SwzOk w8 16 16 0 (positions FRONT start) × (swz_l w8 16 xs 0 (positions FRONT start) ≡ drop start xs ++ replicate start 0)
 moved_to_front start few xs long = moved FRONT to_front xs start (both start few xs long).1
 
+-- ---- digits read in pairs
+
+-- two digits in 16 bits: their pair in the lower byte, ten times the second in the upper one
+abbrev lane_pair : ℕ → ℕ
+lane_pair z = (z * 10 % 65536 + z / 256) % 65536
+
+abbrev pair_bytes : List ℕ → List ℕ
+pair_bytes [] = []
+pair_bytes (a ∷ []) = []
+pair_bytes (a ∷ b ∷ xs) = (a * 10 + b) ∷ (b * 10) ∷ pair_bytes xs
+
+abbrev pair_count : List ℕ → ℕ
+pair_count [] = 0
+pair_count (a ∷ []) = 0
+pair_count (a ∷ b ∷ xs) = suc (pair_count xs)
+
+abbrev byte_count : List ℕ → ℕ
+byte_count [] = 0
+byte_count (a ∷ []) = 0
+byte_count (a ∷ b ∷ xs) = suc (suc (byte_count xs))
+
+abbrev pub lane_bytes : (pairs bytes : ℕ) → List ℕ → List ℕ
+lane_bytes pairs bytes xs = digits_l 256 bytes (number_l 65536 (map lane_pair (digits_l 65536 pairs (number_l 256 xs))))
+
+bytes_are : (xs : List ℕ) → AllBelowBase 10 xs → lane_bytes (pair_count xs) (byte_count xs) xs ≡ pair_bytes xs
+bytes_are [] h = refl
+bytes_are (a ∷ []) h = refl
+bytes_are (a ∷ b ∷ xs) h =
+    let rest = number_l 256 xs in
+    let lanes = number_l 65536 (map lane_pair (digits_l 65536 (pair_count xs) rest)) in
+    let first : (a + 256 * (b + 256 * rest)) % 65536 ≡ a + 256 * b = omega (arith, h.0, h.1.0) in
+    let others : (a + 256 * (b + 256 * rest)) / 65536 ≡ rest = omega (arith, h.0, h.1.0) in
+    let lane : lane_pair (a + 256 * b) ≡ (a * 10 + b) + 256 * (b * 10) = omega (arith, h.0, h.1.0) in
+    let low : ((a * 10 + b) + 256 * (b * 10) + 65536 * lanes) % 256 ≡ a * 10 + b = omega (arith, h.0, h.1.0) in
+    let high : ((a * 10 + b) + 256 * (b * 10) + 65536 * lanes) / 256 % 256 ≡ b * 10 = omega (arith, h.0, h.1.0) in
+    let on : ((a * 10 + b) + 256 * (b * 10) + 65536 * lanes) / 256 / 256 ≡ lanes = omega (arith, h.0, h.1.0) in
+    rw (first, others, lane, low, high, on) (ap (λ l. (a * 10 + b) ∷ (b * 10) ∷ l) (bytes_are xs h.1.1))
+
+and_both : (a b : Bool) → T a → T b → T (a && b)
+and_both true b s t = t
+and_both false b s t = absurd s
+
+below_all : (n : ℕ) (ks : List ℕ) → AllBelowBase n ks → T (all_below n ks)
+below_all n [] h = tt
+below_all n (k ∷ ks) h = and_both (ltb k n) (all_below n ks) (lt→ltb k n h.0) (below_all n ks h.1)
+
+-- the products of the pairs do not overflow
+pub pairs_fit : (xs : List ℕ) → length xs ≡ 16 → AllBelowBase 10 xs → T (all_below 32768 (pair_sums (products (lane_bytes 8 16 xs) PAIRS)))
+pairs_fit xs long = spelled (λ xs. AllBelowBase 10 xs → T (all_below 32768 (pair_sums (products (lane_bytes 8 16 xs) PAIRS)))) 16
+    (λ f h. subst (λ l. T (all_below 32768 (pair_sums (products l PAIRS)))) (sym (bytes_are (listed f 16) h))
+    (below_all 32768 (pair_sums (products (pair_bytes (listed f 16)) PAIRS)) (omega (arith, h)))) xs long
+
 abbrev lanes : List ℕ → List ℕ
-lanes xs = zip2 (λ a b. (a + b) % 2 ^ 32) (zip2 (λ a b. a * b % 2 ^ 32) (dots xs HUNDREDS) (replicate 4 100)) (dots xs UNITS)
+lanes xs = dots (lane_bytes 8 16 xs) PAIRS
 
 abbrev pub lane : List ℕ → ℕ → ℕ
 lane xs k = get_or (lanes xs) k 0
@@ -93,35 +147,33 @@ lane xs k = get_or (lanes xs) k 0
 abbrev Four : (a b c d : ℕ) → Type 0
 Four a b c d = (a < 10) × (b < 10) × (c < 10) × (d < 10)
 
--- four digits in one lane
-four : (a b c d : ℕ) → Four a b c d
-    → ((a * 10 + b * 1 + (c * 0 + d * 0)) * 100 % 2 ^ 32 + (a * 0 + b * 0 + (c * 10 + d * 1))) % 2 ^ 32 ≡ ((a * 10 + b) * 10 + c) * 10 + d
-four a b c d h = omega (arith, h.0, h.1, h.2, h.3)
-
 small : (a b c d : ℕ) → Four a b c d → ((a * 10 + b) * 10 + c) * 10 + d < 10 ^ 4
 small a b c d h = omega (arith, h.0, h.1, h.2, h.3)
 
+four : (a b c d : ℕ) → (a * 10 + b) * 100 + b * 10 * 0 + ((c * 10 + d) * 1 + d * 10 * 0) ≡ ((a * 10 + b) * 10 + c) * 10 + d
+four a b c d = omega arith
+
+abbrev RowOf : List ℕ → ℕ → Type 0
+RowOf fours n = (get_or fours 0 0 < 10 ^ 4) × (get_or fours 1 0 < 10 ^ 4) × (get_or fours 2 0 < 10 ^ 4) × (get_or fours 3 0 < 10 ^ 4)
+    × ((get_or fours 0 0 * 10000 + get_or fours 1 0) * 100000000 + (get_or fours 2 0 * 10000 + get_or fours 3 0) ≡ n)
+
 abbrev pub IsRow : List ℕ → Type 0
-IsRow xs = (lane xs 0 < 10 ^ 4) × (lane xs 1 < 10 ^ 4) × (lane xs 2 < 10 ^ 4) × (lane xs 3 < 10 ^ 4)
-    × ((lane xs 0 * 10000 + lane xs 1) * 100000000 + (lane xs 2 * 10000 + lane xs 3) ≡ number_from_digits 10 xs)
+IsRow xs = RowOf (lanes xs) (number_from_digits 10 xs)
 
 pub row_is : (xs : List ℕ) → length xs ≡ 16 → AllBelowBase 10 xs → IsRow xs
 row_is xs long = spelled (λ xs. AllBelowBase 10 xs → IsRow xs) 16 (λ f h.
     let h4 = h.1.1.1.1 in
     let h8 = h4.1.1.1.1 in
     let hc = h8.1.1.1.1 in
-    let qa : Four (f 0) (f 1) (f 2) (f 3) = (h.0, h.1.0, h.1.1.0, h.1.1.1.0) in
-    let qb : Four (f 4) (f 5) (f 6) (f 7) = (h4.0, h4.1.0, h4.1.1.0, h4.1.1.1.0) in
-    let qc : Four (f 8) (f 9) (f 10) (f 11) = (h8.0, h8.1.0, h8.1.1.0, h8.1.1.1.0) in
-    let qd : Four (f 12) (f 13) (f 14) (f 15) = (hc.0, hc.1.0, hc.1.1.0, hc.1.1.1.0) in
-    let a = four (f 0) (f 1) (f 2) (f 3) qa in
-    let b = four (f 4) (f 5) (f 6) (f 7) qb in
-    let c = four (f 8) (f 9) (f 10) (f 11) qc in
-    let d = four (f 12) (f 13) (f 14) (f 15) qd in (
-      rw a (small (f 0) (f 1) (f 2) (f 3) qa),
-      rw b (small (f 4) (f 5) (f 6) (f 7) qb),
-      rw c (small (f 8) (f 9) (f 10) (f 11) qc),
-      rw d (small (f 12) (f 13) (f 14) (f 15) qd),
+    let a = four (f 0) (f 1) (f 2) (f 3) in
+    let b = four (f 4) (f 5) (f 6) (f 7) in
+    let c = four (f 8) (f 9) (f 10) (f 11) in
+    let d = four (f 12) (f 13) (f 14) (f 15) in
+    subst (λ l. RowOf (dots l PAIRS) (number_from_digits 10 (listed f 16))) (sym (bytes_are (listed f 16) h)) (
+      rw a (small (f 0) (f 1) (f 2) (f 3) (h.0, h.1.0, h.1.1.0, h.1.1.1.0)),
+      rw b (small (f 4) (f 5) (f 6) (f 7) (h4.0, h4.1.0, h4.1.1.0, h4.1.1.1.0)),
+      rw c (small (f 8) (f 9) (f 10) (f 11) (h8.0, h8.1.0, h8.1.1.0, h8.1.1.1.0)),
+      rw d (small (f 12) (f 13) (f 14) (f 15) (hc.0, hc.1.0, hc.1.1.0, hc.1.1.1.0)),
       omega (arith, a, b, c, d),
     )) xs long
 

@@ -1,14 +1,9 @@
 use Rattle.ijson_number.proofs.Common.{◌≡◌, ℕ, ◌+◌, ◌*◌, ◌^◌, ◌<◌, List, length, arith, AllBelowBase, number_from_digits}
-use borrow.Author.Lanes.{dot4_Fits}
-use Rattle.ijson_number.specs.declared.lanes.TheConstants.{HUNDREDS, UNITS}
-use Rattle.ijson_number.proofs.parsing.ReadLanes.{lane, row_is}
+use Rattle.ijson_number.proofs.parsing.ReadLanes.{lane, pairs_fit, row_is}
 use Rattle.ijson_number.proofs.lanes.number_of_lanes.Goals as goal
 
-pub dot4-hundreds : goal.dot4-hundreds
-dot4-hundreds c = (dot4_Fits c.args.digits HUNDREDS c.fits-digits.1 tt, tt)
-
-pub dot4-units : goal.dot4-units
-dot4-units c = (dot4_Fits c.args.digits UNITS c.fits-digits.1 tt, tt)
+pub dot4 : goal.dot4
+dot4 c = (pairs_fit c.args.digits c.requires.all c.requires.digits, tt)
 
 -- the value of the lanes, from the numbers that were extracted from them
 lanes : (xs : List ℕ) (a b c d : ℕ) → length xs ≡ 16 → AllBelowBase 10 xs → a ≡ lane xs 0 → b ≡ lane xs 1 → c ≡ lane xs 2 → d ≡ lane xs 3
