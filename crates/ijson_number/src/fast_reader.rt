@@ -12,7 +12,7 @@ use crate::significand::Significand;
 use std::simd::prelude::*;
 
 /// Fewer digits are read one by one rather than by a vector.
-const FEW: usize = 4;
+const FEW: usize = 3;
 
 /// The maximum number of exponent digits that this pass reads.
 const EXPONENT_DIGITS: usize = 4;
