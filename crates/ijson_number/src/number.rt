@@ -294,6 +294,7 @@ impl Clone for Stored {
 
     ghost is_infallible = { λ s. is_digits (stored_form s) ≡ false };
 
+    #[inline(always)]
     fn clone(&self) -> Result<Stored, AllocError> {
         match self {
             Stored::Packed(word) => Ok(Stored::Packed(*word)),
@@ -318,6 +319,7 @@ impl Clone for INumber {
     ghost is_infallible = { λ n. is_digits (form_of n.decimal) ≡ false };
 
     /// It allocates, and takes time linear in the digits, only if the form is a list of digits.
+    #[inline(always)]
     fn clone(&self) -> Result<INumber, AllocError> {
         let stored = self.stored.clone()?;
         Ok(INumber { stored })

@@ -1,5 +1,5 @@
 -- Elements and member values are no deeper than their container, so a recursion over a tree ends.
-use Rattle.std.proofs.Common.{◌≡◌, ℕ, zero, suc, ◌*◌, ◌<◌, ◌≤◌, List, [], ◌∷◌, ◌∙◌, length, get_or, arith, ap, sym}
+use Rattle.std.proofs.Common.{◌≡◌, ℕ, zero, suc, ◌+◌, ◌*◌, ◌<◌, ◌≤◌, List, [], ◌∷◌, ◌∙◌, length, get_or, arith, ap, sym}
 use denote.Param.Weighed.{most}
 use Rattle.ijson_table.specs.Store.{Store}
 use Rattle.ijson_value.specs.NodeValue.{node_value}
@@ -51,5 +51,5 @@ module _ {n : Destructured} {v : WellFormed} where
   object_shown read is view = ap object_tree read ∙ sym (ap (λ m. (node_value m).tree) is) ∙ ap tree_of view
 
   pub pairs_fall : {s : Store WellFormed} {ps : List (List ℕ × WellFormed)} → ps ≡ s.pairs → n ≡ Object s → node_value n ≡ v
-      → at_pairs ps < at_value v
+      → at_pairs ps + 1 < at_value v
   pairs_fall {s} {ps} read is view = omega (arith, pairs_below ps, ap depth (object_shown read is view))

@@ -8,7 +8,10 @@ use ijson_string::IString;
 use std::alloc::{AllocError, Global};
 
 /// Returns a copy of a value.
+///
+/// Inlined, and its callees are not: so an element that is no container is copied without a call.
 #[cycle(clone)]
+#[inline(always)]
 fn clone_value(value: &IValue) -> Result<IValue, AllocError>
     ensures { IfOk result (λ copy. copy ≡ value.now) }
 {
@@ -21,16 +24,14 @@ fn clone_value(value: &IValue) -> Result<IValue, AllocError>
             array.allocator(),
             array.as_slice(),
         )?),
-        Destructured::Object(object) => {
-            let pairs = clone_pairs(object.allocator(), object.as_slice())?;
-            Destructured::Object(object.with_same_keys(pairs)?)
-        }
+        Destructured::Object(object) => Destructured::Object(clone_object(object)?),
     };
     Ok(IValue { node })
 }
 
 /// Returns an array of copies of `items`. An empty one does not allocate.
 #[cycle(clone)]
+#[inline(never)]
 fn clone_items(alloc: Global, items: &[IValue]) -> Result<IArray, AllocError>
     ensures items { IfOk result (λ copy. copy.items ≡ items.now) }
     ensures room { IfOk result (λ copy. copy.capacity ≡ length items.now) }
@@ -42,6 +43,18 @@ fn clone_items(alloc: Global, items: &[IValue]) -> Result<IArray, AllocError>
         copies.push_reserved(copy);
     }
     IArray::of_list(alloc, copies)
+}
+
+/// Returns a copy of an object, without spare capacity. An empty one does not allocate.
+#[cycle(clone)]
+#[inline(never)]
+fn clone_object(object: &IObject) -> Result<IObject, AllocError>
+    ensures pairs { IfOk result (λ copy. copy.pairs ≡ object.now.pairs) }
+    ensures room { IfOk result (λ copy. copy.capacity ≡ length object.now.pairs) }
+    ensures none { length object.now.pairs ≡ 0 → IsOk result }
+{
+    let pairs = clone_pairs(object.allocator(), object.as_slice())?;
+    object.with_same_keys(pairs)
 }
 
 /// Returns copies of `pairs`.
@@ -109,8 +122,7 @@ impl Clone for IObject {
     ghost is_infallible = { λ o. length o.pairs ≡ 0 };
 
     fn clone(&self) -> Result<IObject, AllocError> {
-        let pairs = clone_pairs(self.allocator(), self.as_slice())?;
-        self.with_same_keys(pairs)
+        clone_object(self)
     }
 }
 

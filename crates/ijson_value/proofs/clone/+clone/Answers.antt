@@ -10,15 +10,18 @@ use Rattle.ijson_value.proofs.clone.+clone.Goals as goal
 use Rattle.ijson_value.proofs.clone.+clone.Goals.{clone_value-in-Null, clone_value-in-Bool, clone_value-in-Number+in_ok-clone-in-Number}
 use Rattle.ijson_value.proofs.clone.+clone.Goals.{clone_value-in-String+in_ok-clone-in-String}
 use Rattle.ijson_value.proofs.clone.+clone.Goals.{clone_value-in-Array+in_ok-clone_items-in-Array}
-use Rattle.ijson_value.proofs.clone.+clone.Goals.{clone_value-in-Object+in_ok-pairs-in-Object+in_ok-with_same_keys-in-Object}
+use Rattle.ijson_value.proofs.clone.+clone.Goals.{clone_value-in-Object+in_ok-clone_object-in-Object}
+use Rattle.ijson_value.proofs.WalkMeasures.{at_pairs}
 
 pub clone_value-clone_items-requires : goal.clone_value-clone_items-requires
 clone_value-clone_items-requires t c =
     (omega (arith, items_fall c.as_slice.ensures c.in-Array.is c.value.view_is, c.decreases), tt)
 
-pub clone_value-clone_pairs-requires : goal.clone_value-clone_pairs-requires
-clone_value-clone_pairs-requires t c =
-    (omega (arith, pairs_fall c.as_slice-in-Object.ensures c.in-Object.is c.value.view_is, c.decreases), tt)
+pub clone_value-clone_object-requires : goal.clone_value-clone_object-requires
+clone_value-clone_object-requires t c = (omega (arith, pairs_fall refl c.in-Object.is c.value.view_is, c.decreases), tt)
+
+pub clone_object-clone_pairs-requires : goal.clone_object-clone_pairs-requires
+clone_object-clone_pairs-requires t c = (omega (arith, ap at_pairs c.as_slice.ensures, c.decreases), tt)
 
 pub clone_value-returns : goal.clone_value-returns
 clone_value-returns t c = elim c.match-value.branch [
@@ -33,10 +36,8 @@ clone_value-returns t c = elim c.match-value.branch [
   | clone_value-in-Array+in_ok-clone_items-in-Array w ↦
       ap node_value w.node-is ∙ ap array_value (w.in_ok-clone_items-in-Array.ensures.items ∙ w.as_slice.ensures)
       ∙ sym (ap node_value w.in-Array.is) ∙ c.value.view_is
-  | clone_value-in-Object+in_ok-pairs-in-Object+in_ok-with_same_keys-in-Object w ↦
-      let pairs = w.in_ok-with_same_keys-in-Object.ensures.pairs ∙ w.in_ok-pairs-in-Object.ensures.pairs
-      ∙ w.as_slice-in-Object.ensures in
-      ap node_value w.node-is ∙ same_pairs_value _ w.in-Object.object pairs
+  | clone_value-in-Object+in_ok-clone_object-in-Object w ↦
+      ap node_value w.node-is ∙ same_pairs_value _ w.in-Object.object w.in_ok-clone_object-in-Object.ensures.pairs
       ∙ sym (ap node_value w.in-Object.is) ∙ c.value.view_is
 ]
 
