@@ -58,6 +58,10 @@ fn encode_integer(negative: bool, magnitude: u64) -> Option<Stored>
     ensures none { IfNone result ((n : Decimal) → integer_form n (signed negative magnitude) ≡ digits_form n) }
     ensures common { (magnitude < 2 ^ 63) ⊎ (negative ≡ false) → IsSome result }
 {
+    if magnitude < PACKED_END as u64 {
+        let mantissa = with_sign(negative, magnitude) as i64;
+        return Some(Stored::Packed(Word::integer(mantissa)));
+    }
     if magnitude < 1 << 63 {
         return Some(encode_signed(with_sign(negative, magnitude) as i64));
     }
