@@ -86,14 +86,12 @@ impl Word {
         Word::from_code(mantissa, (exponent + 7) as u64)
     }
 
-    /// Returns the mantissa, without a branch on its sign, which the branch predictor cannot predict.
+    /// Returns the mantissa.
     pub fn mantissa(self) -> i64
         ensures value { result ≡ word_mantissa self.bits }
         ensures small { nat_abs result ≤ 2 ^ 55 }
     {
-        let above = self.bits / 256;
-        let sign = above / (1 << 55);
-        above as i64 - (sign * (1 << 56)) as i64
+        self.bits.cast_signed() >> 8
     }
 
     /// Returns bits 4 to 7.
