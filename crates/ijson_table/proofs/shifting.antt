@@ -2,7 +2,7 @@ pub mod BackwardShift
 pub mod Insertion
 pub mod ListShiftOut
 pub mod ListSwapRemove
-pub mod LowerPositions
+pub mod MovedIndices
 pub mod Removal
 pub mod SlotWrites
 pub mod Vacancy

@@ -1,5 +1,4 @@
 pub mod Changes
-pub mod Closing
 pub mod CountedSteps
 pub mod Entries
 pub mod EntryOrder
@@ -11,6 +10,7 @@ pub mod IsPlaced
 pub mod KeptHash
 pub mod Lookup
 pub mod Merging
+pub mod Moving
 pub mod Narrow
 pub mod NarrowSlots
 pub mod Probe

@@ -3,8 +3,8 @@
 
 ghost use Rattle.std.specs.Prelude.{◌≡◌, ◌+◌, ◌-◌, ◌<◌, ◌/◌, ◌%◌, ◌^◌, Some, None, IsTrue, ◌↔◌};
 ghost use Rattle.ijson_table.specs.Crowd.{distance};
-ghost use Rattle.ijson_table.specs.private.Closing.{closed};
 ghost use Rattle.ijson_table.specs.private.KeptHash.{kept};
+ghost use Rattle.ijson_table.specs.private.Moving.{moved, renumbered};
 ghost use Rattle.ijson_table.specs.private.SlotHashes.{position_in, SeenAs};
 
 pub mod narrow;
@@ -72,16 +72,14 @@ impl Slot {
         }
     }
 
-    /// Returns the slot after index `gone` was removed: later indices decrease by one.
-    pub fn closed(self, gone: usize) -> Slot
-        requires { gone + 1 < 2 ^ 64 }
-        ensures { result ≡ closed gone self }
+    /// Returns the slot after the entry at index `from` was moved to index `to`.
+    pub fn renumbered(self, from: usize, to: usize) -> Slot
+        requires from { from + 1 < 2 ^ 64 }
+        requires to { to + 1 < 2 ^ 64 }
+        ensures { result ≡ renumbered from to self }
     {
-        if self.code <= gone + 1 {
-            return self;
-        }
         Slot {
-            code: self.code - 1,
+            code: moved(self.code, from + 1, to + 1),
             hash: self.hash,
         }
     }
@@ -99,6 +97,22 @@ impl Slot {
                 same,
             },
         }
+    }
+}
+
+/// Returns an index after the item at `from` was moved to `to`: those in between move by one.
+#[inline(always)]
+fn moved(index: usize, from: usize, to: usize) -> usize
+    ensures { result ≡ moved from to index }
+{
+    if index < from.min(to) || from.max(to) < index {
+        index
+    } else if index == from {
+        to
+    } else if from < to {
+        index - 1
+    } else {
+        index + 1
     }
 }
 

@@ -1,14 +1,15 @@
 //! A pair store that finds keys by their hash.
 
-ghost use Rattle.std.specs.Prelude.{◌≡◌, ◌+◌, ◌-◌, ◌<◌, ◌≤◌, ◌^◌, [], ◌∷◌, ◌++◌, length, get_or, map};
-ghost use Rattle.std.specs.Prelude.{Err, refl, is_some, IfOk, IsOk, IsTrue, OnErr, OnOk, ◌↔◌, None};
+ghost use Rattle.std.specs.Prelude.{◌≡◌, ℕ, ◌+◌, ◌-◌, ◌<◌, ◌≤◌, ◌^◌, List, [], ◌∷◌, ◌++◌, length, get_or, slice_get, map};
+ghost use Rattle.std.specs.Prelude.{Err, refl, is_some, IfOk, IsOk, IsTrue, OnErr, OnOk, ◌↔◌, Some, None};
+ghost use Rattle.std.specs.List.{insert};
 ghost use Rattle.std.specs.Option.{option_copied};
 ghost use Rattle.std.specs.Slice.Iter.{iter_rest};
 ghost use Rattle.ijson_table.specs.BuildBound.{IsBuildBounded};
 ghost use Rattle.ijson_table.specs.Growth.{Grow, Shrink, capacity_limit};
 ghost use Rattle.ijson_table.specs.Inserts.{Inserts};
 ghost use Rattle.ijson_table.specs.Slots.{IsBounded};
-ghost use Rattle.ijson_table.specs.Store.{at, keys_of, IsDistinct, lookup, with_key};
+ghost use Rattle.ijson_table.specs.Store.{at, keys_of, shift_out, IsDistinct, lookup, with_key};
 ghost use Rattle.ijson_table.specs.PlacedWithValue.{placed_with_value};
 ghost use Rattle.ijson_table.specs.laws.Store.{IsDistinct-prop};
 ghost use Rattle.ijson_table.specs.private.Holds.{HasEmpty, MayStand};
@@ -240,8 +241,8 @@ impl<V: Drop, H: KeyHash> Table<V, H> {
         Ok(self.set_capacity(len, looks)?)
     }
 
-    /// Appends an entry whose key is new and has this hash, within the spare capacity.
-    fn push_hashed(&mut self, key: IString, value: V, hash: u64)
+    /// Like `push_new`, for a key with this hash.
+    pub fn push_hashed(&mut self, key: IString, value: V, hash: u64)
         requires missing { at self.old.store.pairs key ≡ None }
         requires hash { hash ≡ H.hash_of key }
         requires room { length self.old.store.pairs < self.old.store.capacity }
@@ -269,6 +270,27 @@ impl<V: Drop, H: KeyHash> Table<V, H> {
         self.slots
             .rehash_one::<V, H>(&self.pairs, index, H::hash(key.as_str()));
         mem::replace(&mut self.pairs[index].0, key)
+    }
+
+    /// Moves the entry at index `from` to index `to`, both below the length; those in between move by one index.
+    ///
+    /// # Cost
+    ///
+    /// Linear in the number of entries from the lower index on and in the number of slots. No key is hashed. Nothing is
+    /// allocated.
+    pub fn move_index(&mut self, from: usize, to: usize)
+        requires from { from < length self.old.store.pairs }
+        requires to { to < length self.old.store.pairs }
+        ensures pairs { (pair : List ℕ × V) → slice_get self.old.store.pairs from ≡ Some pair
+            → self.new.store.pairs ≡ insert (shift_out self.old.store.pairs from) to pair }
+        ensures capacity { self.new.store.capacity ≡ self.old.store.capacity }
+    {
+        self.slots.renumber(from, to);
+        let pair = self.pairs.remove(from);
+        match self.pairs.insert(to, pair) {
+            Ok(()) => (),
+            Err(_) => unreachable!(),
+        }
     }
 
     /// Like `push_hashed`, at the slot at which the probe for the key ended.
@@ -346,7 +368,15 @@ impl<V, H: KeyHash> Table<V, H> {
     pub fn get_index_of(&self, key: &str) -> Option<usize>
         ensures { result ≡ at self.now.store.pairs key.now }
     {
-        self.find(H::hash(key), key, &mut Looks::new()).0.found()
+        self.get_index_hashed(key, H::hash(key))
+    }
+
+    /// Like `get_index_of`, for a key with this hash.
+    pub fn get_index_hashed(&self, key: &str, hash: u64) -> Option<usize>
+        requires { hash ≡ H.hash_of key.now }
+        ensures { result ≡ at self.now.store.pairs key.now }
+    {
+        self.find(hash, key, &mut Looks::new()).0.found()
     }
 
     /// Returns `true` if the table has `key`.

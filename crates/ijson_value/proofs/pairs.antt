@@ -1,7 +1,6 @@
 pub mod Entries
 pub mod Given
 pub mod Inserted
-pub mod InsertedAt
 pub mod PairLookups
 pub mod PutInTurn
 pub mod PutInside

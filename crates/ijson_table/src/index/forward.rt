@@ -1,7 +1,8 @@
-//! `shift_forward`: the forward shift of residents, to insert one more.
+//! The forward shift of residents, to insert one more, and their new numbers, in each representation.
 
-ghost use Rattle.std.specs.Prelude.{ℕ, ◌+◌, ◌<◌, List, map};
+ghost use Rattle.std.specs.Prelude.{◌≡◌, ℕ, ◌+◌, ◌<◌, List, length, map};
 ghost use Rattle.ijson_table.specs.private.Insertion.{IsPut, MayPut};
+ghost use Rattle.ijson_table.specs.private.Moving.{renumbered};
 
 use crate::index::probe::next_slot;
 use crate::slot::Slot;
@@ -34,5 +35,18 @@ pub fn shift_forward<S: StoredSlot + Copy + Drop>(
         }
         entry = was;
         slot = next_slot(count, slot);
+    }
+}
+
+/// Renumbers the residents after the entry at index `from` was moved to index `to`.
+pub fn renumber<S: StoredSlot + Copy + Drop>(slots: &mut [S], from: usize, to: usize)
+    requires from { from < length slots.old }
+    requires to { to < length slots.old }
+    requires from_code { from + 1 < S.code_limit }
+    requires to_code { to + 1 < S.code_limit }
+    ensures { map S.stands_for slots.new ≡ map (renumbered from to) (map S.stands_for slots.old) }
+{
+    for slot in 0..slots.len() {
+        slots[slot] = S::stored(slots[slot].widened().renumbered(from, to));
     }
 }

@@ -3,9 +3,9 @@
 ghost use Rattle.std.specs.Prelude.{◌≡◌, ℕ, ◌+◌, ◌<◌, ◌≤◌, ◌%◌, ◌^◌, List, length, map, set, Some};
 ghost use Rattle.ijson_table.specs.Slots.{resident};
 ghost use Rattle.ijson_table.specs.Store.{keys_of};
-ghost use Rattle.ijson_table.specs.private.Closing.{closed};
 ghost use Rattle.ijson_table.specs.private.Holds.{HasEmpty};
 ghost use Rattle.ijson_table.specs.private.Insertion.{IsTableBut, IsTableOf, Stands};
+ghost use Rattle.ijson_table.specs.private.Moving.{renumbered};
 ghost use Rattle.ijson_table.specs.private.SlotHashes.{displacement_in, positions};
 ghost use Rattle.ijson_table.specs.private.Probe.{IsVacancy};
 ghost use Rattle.std.specs.List.{remove, swap_remove as swapped_out};
@@ -115,16 +115,6 @@ fn take_out<V, H: KeyHash>(slots: &mut Slots, pairs: &[(IString, V)], position: 
     }
 }
 
-/// Decrements each index after `gone`.
-fn close_up(slots: &mut Slots, gone: usize)
-    requires { gone + 1 < 2 ^ 64 }
-    ensures { slots.new ≡ map (closed gone) slots.old }
-{
-    for slot in 0..slots.len() {
-        slots.set(slot, slots.at(slot).closed(gone));
-    }
-}
-
 /// Each is called before the pairs are changed.
 impl Slots {
     /// Removes index `position` and gives its number to the last one.
@@ -162,12 +152,11 @@ impl Slots {
     pub fn shift_remove<V, H: KeyHash>(&mut self, pairs: &[(IString, V)], position: usize)
         requires table { IsTableOf (map H.hash_of (keys_of pairs.now)) self.old }
         requires within { position < length pairs.now }
+        requires room { length pairs.now ≤ length self.old }
         ensures table { IsTableOf (remove (map H.hash_of (keys_of pairs.now)) position) self.new }
         ensures count { length self.new ≡ length self.old }
     {
         take_out::<V, H>(self, pairs, position);
-        if position + 1 < pairs.len() {
-            close_up(self, position);
-        }
+        self.renumber(position, pairs.len() - 1);
     }
 }

@@ -7,12 +7,13 @@ ghost use Rattle.ijson_table.specs.Store.{keys_of};
 ghost use Rattle.ijson_table.specs.private.CountedSteps.{Walks};
 ghost use Rattle.ijson_table.specs.private.Insertion.{IsPut, IsTableOf, MayPut};
 ghost use Rattle.ijson_table.specs.private.KeptHash.{kept};
+ghost use Rattle.ijson_table.specs.private.Moving.{renumbered};
 ghost use Rattle.ijson_table.specs.private.Narrow.{Fits, MayHold};
 ghost use Rattle.ijson_table.specs.private.Probe.{Passed};
 ghost use Rattle.ijson_table.specs.private.SlotHashes.{blank, positions};
 
 use crate::hash::KeyHash;
-use crate::index::forward::shift_forward;
+use crate::index::forward::{renumber, shift_forward};
 use crate::index::probe::{Lookup, Probed, probe};
 use crate::slot::narrow::NarrowSlot;
 use crate::slot::stored::StoredSlot;
@@ -231,6 +232,24 @@ impl Slots {
             ),
             Stored::Narrow(slots) => shift_forward(slots, from, position, hash),
             Stored::Wide(slots) => shift_forward(slots, from, position, hash),
+        }
+    }
+
+    /// Renumbers the residents after the entry at index `from` was moved to index `to`.
+    ///
+    /// The representation is tested once.
+    pub fn renumber(&mut self, from: usize, to: usize)
+        requires from { from < length self.old }
+        requires to { to < length self.old }
+        ensures { self.new ≡ map (renumbered from to) self.old }
+    {
+        if from == to {
+            return;
+        }
+        match &mut self.stored {
+            Stored::Few(few) => renumber(&mut few.slots[..usize::from(few.count)], from, to),
+            Stored::Narrow(slots) => renumber(slots, from, to),
+            Stored::Wide(slots) => renumber(slots, from, to),
         }
     }
 }

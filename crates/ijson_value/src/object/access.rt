@@ -3,8 +3,10 @@ ghost use Rattle.std.specs.Prelude.{◌≡◌, ◌<◌, ◌++◌, ◌∷◌, ℕ
 ghost use Rattle.std.specs.Borrow.{sem};
 ghost use Rattle.std.specs.Map.Iter.{deref_pair};
 ghost use Rattle.std.specs.List.{insert};
+ghost use Rattle.ijson_table.specs.Fold.{fold_words};
 ghost use Rattle.ijson_table.specs.Store.{at, keys_of, swap_out, shift_out, with_key};
 ghost use Rattle.ijson_value.specs.LendsValue.{LendsValue, LendsValueIf};
+ghost use Rattle.ijson_value.specs.WellFormed.{WellFormed};
 
 use super::map::IObject;
 use crate::value::IValue;
@@ -51,6 +53,19 @@ impl IObject {
         }
     }
 
+    /// Like `position`, for a key with this hash.
+    #[tactic(auto, using(ijson_table::proofs::pairs::PairsByKey::position_within))]
+    pub(super) fn position_hashed(&self, key: &str, hash: u64) -> Option<usize>
+        requires { hash ≡ fold_words key.now }
+        ensures position { result ≡ at self.now.pairs key.now }
+        ensures within { IfSome result (λ position. position < length self.now.pairs) }
+    {
+        match &self.table {
+            None => None,
+            Some(table) => table.get_index_hashed(key, hash),
+        }
+    }
+
     /// Returns the entry at an index.
     pub(super) fn pair(&self, position: usize) -> (&IString, &IValue)
         requires { position < length self.now.pairs }
@@ -78,31 +93,39 @@ impl IObject {
         self.table.as_mut().unwrap().pair_mut(position)
     }
 
-    /// Appends an entry, within the capacity.
-    pub(super) fn push_new(&mut self, key: IString, value: IValue)
+    /// Appends an entry whose key has this hash, within the capacity.
+    pub(super) fn push_hashed(&mut self, key: IString, value: IValue, hash: u64)
         requires missing { at self.old.pairs key ≡ None }
+        requires hash { hash ≡ fold_words key }
         requires within { length self.old.pairs < self.old.capacity }
         ensures pairs { self.new.pairs ≡ self.old.pairs ++ (key, value) ∷ [] }
         ensures capacity { self.new.capacity ≡ self.old.capacity }
     {
-        self.table.as_mut().unwrap().push_new(key, value);
+        self.table.as_mut().unwrap().push_hashed(key, value, hash);
     }
 
-    /// Inserts an entry with a new key at an index, or appends it if the index is past the end, within the capacity.
-    ///
-    /// The last entry replaces each entry from there on in turn, and that is appended.
-    pub(super) fn insert_new(&mut self, position: usize, key: IString, value: IValue)
+    /// Inserts an entry whose key has this hash at an index, or appends it if the index is past the end, within the capacity.
+    pub(super) fn insert_new(&mut self, position: usize, key: IString, value: IValue, hash: u64)
         requires missing { at self.old.pairs key ≡ None }
+        requires hash { hash ≡ fold_words key }
         requires within { length self.old.pairs < self.old.capacity }
         ensures pairs { self.new.pairs ≡ insert self.old.pairs position (key, value) }
         ensures capacity { self.new.capacity ≡ self.old.capacity }
     {
         let last = self.len();
-        self.push_new(key, value);
-        for index in position..last {
-            let (key, value) = self.swap_out(index);
-            self.push_new(key, value);
-        }
+        self.push_hashed(key, value, hash);
+        self.move_index(last, position.min(last));
+    }
+
+    /// Moves the entry at index `from` to index `to`; those in between move by one index.
+    fn move_index(&mut self, from: usize, to: usize)
+        requires from { from < length self.old.pairs }
+        requires to { to < length self.old.pairs }
+        ensures pairs { (pair : List ℕ × WellFormed) → slice_get self.old.pairs from ≡ Some pair
+            → self.new.pairs ≡ insert (shift_out self.old.pairs from) to pair }
+        ensures capacity { self.new.capacity ≡ self.old.capacity }
+    {
+        self.table.as_mut().unwrap().move_index(from, to);
     }
 
     /// Replaces the key at an index by a missing one, and returns the old key.

@@ -10,6 +10,7 @@ ghost use Rattle.ijson_value.specs.ReplacesKey.{ReplacesKey};
 use super::map::{IObject, RefusedPair};
 use crate::value::IValue;
 use ijson_string::IString;
+use ijson_table::{FixedHash, KeyHash};
 use thiserror::Error;
 
 /// The new key, which did not replace the old one, by the reason.
@@ -34,8 +35,8 @@ impl IObject {
     ///
     /// # Cost
     ///
-    /// Linear in the number of entries from the index on, whose keys are hashed, if few keys collide. An existing key is removed first, as
-    /// by `shift_remove`.
+    /// Linear in the number of entries and in the capacity if few keys collide. A new key is hashed once; an existing one is removed first,
+    /// as by `shift_remove`, and hashed twice.
     pub fn shift_insert(
         &mut self,
         position: usize,
@@ -52,16 +53,18 @@ impl IObject {
         ensures refused { IfErr result (λ refused. (refused.key ≡ key) × (refused.value ≡ value)
             × FindsNoRoom self.old key refused.why × (self.new ≡ self.old)) }
     {
-        match self.position(key.as_str()) {
+        let text = key.as_str();
+        let hash = FixedHash::hash(text);
+        match self.position_hashed(text, hash) {
             Some(found) => {
                 let (same, old) = self.shift_out(found);
                 drop(same);
-                self.insert_new(position, key, value);
+                self.insert_new(position, key, value, hash);
                 Ok(Some(old))
             }
             None => match self.reserve(1) {
                 Ok(()) => {
-                    self.insert_new(position, key, value);
+                    self.insert_new(position, key, value, hash);
                     Ok(None)
                 }
                 Err(why) => Err(RefusedPair { key, value, why }),

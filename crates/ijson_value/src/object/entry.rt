@@ -1,18 +1,19 @@
 //! A view of one key of an object: occupied by its entry, or vacant.
 ghost use Rattle.std.specs.Prelude.{◌≡◌, ◌<◌, ℕ, List, length, Some, None, IfOk, IfErr};
 ghost use Rattle.std.specs.Borrow.{sem};
+ghost use Rattle.ijson_table.specs.Fold.{fold_words};
 ghost use Rattle.ijson_table.specs.Store.{at, lookup};
 
 use super::map::IObject;
 use crate::value::IValue;
 use ijson_string::IString;
-use ijson_table::ReserveError;
+use ijson_table::{FixedHash, KeyHash, ReserveError};
 use std::{fmt, mem};
 use thiserror::Error;
 
 /// A view of one key of an object, occupied or vacant.
 ///
-/// An occupied entry keeps the index that the lookup found. Filling a vacant one hashes its key again.
+/// An occupied entry keeps the index that the lookup found, a vacant one the hash of its key.
 ///
 /// ```
 /// let count = object.entry(key)?.or_insert(IValue::from(0u64)); // the value of the key, or 0
@@ -49,6 +50,8 @@ impl Text for IString {
 pub struct VacantEntry<'a, K: Text = IString> {
     object: &'a mut IObject,
     key: K,
+    hash: u64,
+    ghost hashed: { hash ≡ fold_words (K.Text.text key) },
     ghost missing: { at object.now.pairs (K.Text.text key) ≡ None },
     ghost room: { length object.now.pairs < object.now.capacity },
 }
@@ -58,7 +61,11 @@ impl<'a, K: Text + Drop> Drop for VacantEntry<'a, K> {
     fn drop(self)
         ensures { self.exit.0.now ≡ self.entry.object.now }
     {
-        let VacantEntry { object: _, key } = self;
+        let VacantEntry {
+            object: _,
+            key,
+            hash: _,
+        } = self;
         drop(key);
     }
 }
@@ -107,7 +114,9 @@ impl IObject {
             (refused.key ≡ key) × FindsNoRoom self.old key refused.why) }
         ensures* rests { sem 𝓛 (RestsIfNoEntry self.entry result) }
     {
-        match self.position(key.as_str()) {
+        let text = key.as_str();
+        let hash = FixedHash::hash(text);
+        match self.position_hashed(text, hash) {
             Some(index) => {
                 drop(key);
                 Ok(Entry::Occupied(OccupiedEntry {
@@ -116,7 +125,11 @@ impl IObject {
                 }))
             }
             None => match self.reserve(1) {
-                Ok(()) => Ok(Entry::Vacant(VacantEntry { object: self, key })),
+                Ok(()) => Ok(Entry::Vacant(VacantEntry {
+                    object: self,
+                    key,
+                    hash,
+                })),
                 Err(why) => Err(RefusedKey { key, why }),
             },
         }
@@ -138,14 +151,20 @@ impl IObject {
         ensures refused { IfErr result (FindsNoRoomOrCopy self.old key.now) }
         ensures* rests { sem 𝓛 (RestsIfNoEntry self.entry result) }
     {
-        match self.position(key.as_str()) {
+        let text = key.as_str();
+        let hash = FixedHash::hash(text);
+        match self.position_hashed(text, hash) {
             Some(index) => Ok(Entry::Occupied(OccupiedEntry {
                 object: self,
                 index,
             })),
             None => match key.clone() {
                 Ok(key) => match self.reserve(1) {
-                    Ok(()) => Ok(Entry::Vacant(VacantEntry { object: self, key })),
+                    Ok(()) => Ok(Entry::Vacant(VacantEntry {
+                        object: self,
+                        key,
+                        hash,
+                    })),
                     Err(why) => {
                         drop(key);
                         Err(why)
@@ -316,7 +335,11 @@ impl<'a> VacantEntry<'a> {
         ensures key { result ≡ entry_key (Vacant self.entry) }
         ensures stays { self.exit.0.now ≡ (entry_object (Vacant self.entry)).now }
     {
-        let VacantEntry { key, object: _ } = self;
+        let VacantEntry {
+            object: _,
+            key,
+            hash: _,
+        } = self;
         key
     }
 
@@ -325,9 +348,9 @@ impl<'a> VacantEntry<'a> {
         ensures* writes_back { sem 𝓛 (EntryLends (Vacant self.entry) result) }
         ensures value { result.now ≡ value }
     {
-        let VacantEntry { object, key } = self;
+        let VacantEntry { object, key, hash } = self;
         let index = object.len();
-        object.push_new(key, value);
+        object.push_hashed(key, value, hash);
         object.value_mut(index)
     }
 }

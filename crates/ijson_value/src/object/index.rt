@@ -13,6 +13,7 @@ ghost use Rattle.ijson_value.specs.Values.{null_value};
 use super::map::{IObject, RefusedPair};
 use crate::value::IValue;
 use ijson_string::IString;
+use ijson_table::{FixedHash, KeyHash};
 use std::ops::{Index, IndexMut};
 
 /// Seals `ObjectIndex`: only strings are keys.
@@ -254,7 +255,9 @@ impl IObject {
         ensures refused { IfErr result (λ refused. (refused.key ≡ key)
             × (refused.value ≡ null_value) × FindsNoRoom self.old key refused.why) }
     {
-        match self.position(key.as_str()) {
+        let text = key.as_str();
+        let hash = FixedHash::hash(text);
+        match self.position_hashed(text, hash) {
             Some(position) => {
                 drop(key);
                 Ok(self.value_mut(position))
@@ -262,7 +265,7 @@ impl IObject {
             None => match self.reserve(1) {
                 Ok(()) => {
                     let position = self.len();
-                    self.push_new(key, IValue::default());
+                    self.push_hashed(key, IValue::default(), hash);
                     Ok(self.value_mut(position))
                 }
                 Err(why) => Err(RefusedPair {

@@ -1,13 +1,20 @@
-use Rattle.std.proofs.Common.{arith}
-use Rattle.ijson_table.proofs.probing.KeyHashes.{length-hashes}
-use Rattle.ijson_table.proofs.shifting.LowerPositions.{closed_table}
+use Rattle.std.proofs.Common.{◌≡◌, ℕ, ◌+◌, ◌-◌, ◌<◌, length, get_or, map, arith, subst}
+use Rattle.ijson_table.specs.private.Insertion.{IsTableOf}
+use Rattle.ijson_table.specs.private.Moving.{renumbered}
+use Rattle.ijson_table.proofs.probing.KeyHashes.{hashes, length-hashes}
+use Rattle.ijson_table.proofs.shifting.MovedIndices.{last_removed, length-relocated, moved_but}
 use Rattle.ijson_table.proofs.shifting.Removal.{last_out}
 use Rattle.ijson_table.proofs.index.slots.Slots.shift_remove.Goals as goal
 
-pub returns-then-position-pairs-clause-table : goal.returns-then-position-pairs-clause-table
-returns-then-position-pairs-clause-table g c = rw (c.close_up.ensures)
-    (closed_table _ c.args.position (omega (arith, c.requires.within, length-hashes g.H.KeyHash.hash_of c.args.pairs.now)) _ c.take_out.ensures.left)
-
-pub returns-else-position-pairs-clause-table : goal.returns-else-position-pairs-clause-table
-returns-else-position-pairs-clause-table g c = last_out _ _ _ c.take_out.ensures.left
-    (omega (arith, c.requires.within, c.if-position-pairs.false, length-hashes g.H.KeyHash.hash_of c.args.pairs.now))
+pub returns-clause-table : goal.returns-clause-table
+returns-clause-table g c =
+    let was = hashes g.H.KeyHash.hash_of c.args.pairs.now in
+    let at : ℕ = c.args.position in
+    let last : ℕ = length c.args.pairs.now - 1 in
+    let count = length-hashes g.H.KeyHash.hash_of c.args.pairs.now in
+    let within : at < length was = omega (arith, c.requires.within, count) in
+    let end : last + 1 ≡ length was = omega (arith, c.requires.within, count) in
+    let size = length-relocated was at last (get_or was at 0) within (omega (arith, end)) in
+    rw (c.renumber.ensures)
+    (subst (λ hs. IsTableOf hs (map (renumbered at last) c.take_out.new.slots)) (last_removed was at last (get_or was at 0) within (omega (arith, end)) end)
+    (last_out _ last _ (moved_but was at last within (omega (arith, end)) _ c.take_out.ensures.left) (omega (arith, end, size))))

@@ -11,9 +11,9 @@ use Rattle.ijson_value.proofs.object.entry.VacantEntry.insert.Goals as goal
 
 pub returns : goal.returns
 returns c =
-    let e = c.args.self in let old : Store WellFormed = e.object.now in let new : Store WellFormed = c.push_new.new.self in
+    let e = c.args.self in let old : Store WellFormed = e.object.now in let new : Store WellFormed = c.push_hashed.new.self in
     let index : ℕ = c.len-index.result in
-    let pushed : new.pairs ≡ old.pairs ++ (e.key, c.args.value) ∷ [] = c.push_new.ensures.pairs in
+    let pushed : new.pairs ≡ old.pairs ++ (e.key, c.args.value) ∷ [] = c.push_hashed.ensures.pairs in
     let got = c.value_mut.ensures.value in (
       (
         refl,
@@ -21,7 +21,7 @@ returns c =
             (ap (λ ps. with_value ps index w) pushed
             ∙ (ap (λ i. with_value (old.pairs ++ (e.key, c.args.value) ∷ []) i w) c.len-index.ensures
             ∙ written_last old.pairs e.key c.args.value w))
-            c.push_new.ensures.capacity,
+            c.push_hashed.ensures.capacity,
       ),
       record {
         writes_back = tt;

@@ -7,12 +7,12 @@ use Rattle.ijson_value.proofs.object.map.IObject.entry.Goals.{In-None}
 
 -- the key does not exist
 absent : (c : In-None) → at c.args.self.now.pairs c.args.key ≡ None
-absent c = placed c.args.self.now.pairs c.as_str.ensures c.position.ensures.position c.in-None.is
+absent c = placed c.args.self.now.pairs c.as_str-text.ensures c.position_hashed.ensures.position c.in-None.is
 
 pub returns-in-Some : goal.returns-in-Some
 returns-in-Some c =
     let old : Store WellFormed = c.args.self.now in
-    let o = is_at old c.args.key c.in-Some.index (placed old.pairs c.as_str.ensures c.position.ensures.position c.in-Some.is) in (
+    let o = is_at old c.args.key c.in-Some.index (placed old.pairs c.as_str-text.ensures c.position_hashed.ensures.position c.in-Some.is) in (
       (refl, λ w. refl, tt),
       record { same_object = refl; found = (o.there, refl); key = o.key; value = o.value; update = o.update; refused = tt; rests = tt },
     )

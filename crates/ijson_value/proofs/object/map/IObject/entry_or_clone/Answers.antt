@@ -12,12 +12,12 @@ above n h = elim (cases_lt 7 n) [ inl long ↦ long | inr short ↦ absurd (h sh
 
 -- the key does not exist
 absent : (c : In-None) → at c.args.self.now.pairs c.args.key.now ≡ None
-absent c = placed c.args.self.now.pairs c.as_str.ensures c.position.ensures.position c.in-None.is
+absent c = placed c.args.self.now.pairs c.as_str-text.ensures c.position_hashed.ensures.position c.in-None.is
 
 pub returns-in-Some : goal.returns-in-Some
 returns-in-Some c =
     let old : Store WellFormed = c.args.self.now in
-    let o = is_at old c.args.key.now c.in-Some.index (placed old.pairs c.as_str.ensures c.position.ensures.position c.in-Some.is) in (
+    let o = is_at old c.args.key.now c.in-Some.index (placed old.pairs c.as_str-text.ensures c.position_hashed.ensures.position c.in-Some.is) in (
       (refl, λ w. refl, tt),
       record { same_object = refl; found = (o.there, refl); key = o.key; value = o.value; update = o.update; refused = tt; rests = tt },
     )

@@ -14,7 +14,7 @@ use Rattle.ijson_value.proofs.object.map.IObject.index_or_insert.Goals as goal
 pub returns-in-Some : goal.returns-in-Some
 returns-in-Some c =
     let old : Store WellFormed = c.args.self.now in let key = c.args.key in let i : ℕ = c.in-Some.position in
-    let found : at old.pairs key ≡ Some i = placed old.pairs c.as_str.ensures c.position.ensures.position c.in-Some.is in
+    let found : at old.pairs key ≡ Some i = placed old.pairs c.as_str-text.ensures c.position_hashed.ensures.position c.in-Some.is in
     let got = c.value_mut.ensures.value in (
       (
         refl,
@@ -34,11 +34,11 @@ returns-in-Some c =
 pub returns-in-Ok : goal.returns-in-Ok
 returns-in-Ok c =
     let old : Store WellFormed = c.args.self.now in let key = c.args.key in let grown : Store WellFormed = c.reserve.new.self in
-    let new : Store WellFormed = c.push_new.new.self in
-    let missing : at old.pairs key ≡ None = placed old.pairs c.as_str.ensures c.position.ensures.position c.in-None.is in
+    let new : Store WellFormed = c.push_hashed.new.self in
+    let missing : at old.pairs key ≡ None = placed old.pairs c.as_str-text.ensures c.position_hashed.ensures.position c.in-None.is in
     let i : ℕ = c.len-position.result in
     let null : WellFormed = c.default.result in
-    let pushed : new.pairs ≡ old.pairs ++ (key, null) ∷ [] = c.push_new.ensures.pairs
+    let pushed : new.pairs ≡ old.pairs ++ (key, null) ∷ [] = c.push_hashed.ensures.pairs
     ∙ ap (λ ps. ps ++ (key, null) ∷ []) c.in-Ok.ensures.pairs in
     let last : i ≡ length old.pairs = c.len-position.ensures ∙ ap length c.in-Ok.ensures.pairs in
     let wrote : (w : WellFormed) → with_value new.pairs i w ≡ put old.pairs key w = λ w.
@@ -49,7 +49,7 @@ returns-in-Ok c =
         (λ w _. (
           search (rules, wrote w),
           subst (λ o. GrownAt o (length old.pairs) old.capacity new.capacity) (sym missing)
-              (subst (λ n. Grown (length old.pairs) old.capacity 1 n) (sym c.push_new.ensures.capacity) c.in-Ok.ensures.growth),
+              (subst (λ n. Grown (length old.pairs) old.capacity 1 n) (sym c.push_hashed.ensures.capacity) c.in-Ok.ensures.growth),
         )),
         tt,
       ),
@@ -64,7 +64,7 @@ returns-in-Ok c =
 pub returns-in-Err : goal.returns-in-Err
 returns-in-Err c =
     let old : Store WellFormed = c.args.self.now in let key = c.args.key in let new : Store WellFormed = c.reserve.new.self in
-    let missing : at old.pairs key ≡ None = placed old.pairs c.as_str.ensures c.position.ensures.position c.in-None.is in
+    let missing : at old.pairs key ≡ None = placed old.pairs c.as_str-text.ensures c.position_hashed.ensures.position c.in-None.is in
     let why = c.in-Err.why in let growth = c.in-Err.ensures.growth in
     let room = refused_capacity (length old.pairs) old.capacity 1 new.capacity why growth in (
       (refl, λ w e. absurd (false≢true e), (c.in-Err.ensures.pairs, room)),

@@ -1,62 +1,42 @@
-use Rattle.std.proofs.Common.{◌≡◌, ◌∷◌, ◌++◌, ◌<◌, ◌+◌, ◌-◌, [], length, sym, ap, subst, ◌∙◌, arith, length-append}
-use Rattle.std.specs.List.{insert}
-use Rattle.ijson_table.specs.Store.{Store, at, swap_out}
-use Rattle.ijson_table.proofs.pairs.PairsByKey.{keys-length, length-swap_out, swapped_lacks}
+use Rattle.std.proofs.Common.{◌≡◌, ◌∷◌, ◌++◌, ◌-◌, ℕ, List, [], length, inl, inr, refl, sym, ap, ap₂, ◌∙◌, arith}
+use Rattle.std.specs.List.{insert, remove}
+use Rattle.std.specs.Prelude.{min, slice_get}
+use Rattle.std.proofs.lemmas.Bool.{cases_lt}
+use Rattle.std.proofs.lemmas.Bool.Decides.{nat_tests}
+use Rattle.std.proofs.lemmas.List.{append-nil, drop_all, take_all}
+use Rattle.std.proofs.lemmas.List.Edits.{remove-append_right}
+use Rattle.ijson_table.specs.Store.{shift_out}
 use Rattle.ijson_value.specs.WellFormed.{WellFormed}
-use Rattle.ijson_value.proofs.pairs.Entries.{key_got}
-use Rattle.ijson_value.proofs.pairs.InsertedAt.{IsTurned, turned_first, turned_last, turned_more}
+use Rattle.ijson_value.proofs.pairs.Entries.{got_last}
 use Rattle.ijson_value.proofs.object.map.IObject.insert_new.Goals as goal
 
-pub loop-index-init : goal.loop-index-init
-loop-index-init c =
-    let old : Store WellFormed = c.args.self.now in
-    record {
-      turned = subst (λ ps. IsTurned (insert old.pairs c.args.position (c.args.key, c.args.value)) ps (c.len-last.result - c.args.position))
-          (sym c.push_new.ensures.pairs)
-          (subst (λ n. IsTurned (insert old.pairs c.args.position (c.args.key, c.args.value)) (old.pairs ++ (c.args.key, c.args.value) ∷ [])
-          (n - c.args.position)) (sym c.len-last.ensures) (turned_first old.pairs c.args.position (c.args.key, c.args.value)));
-      length = omega
-          (arith, ap length c.push_new.ensures.pairs, length-append old.pairs ((c.args.key, c.args.value) ∷ []), c.len-last.ensures);
-      capacity = c.push_new.ensures.capacity;
-    }
+module _ {X : Type 0} (xs : List X) (x : X) where
+  -- a list without the item that was appended to it
+  last_out : remove (xs ++ x ∷ []) (length xs) ≡ xs
+  last_out =
+      let none : length xs - length xs ≡ 0 = omega arith in
+      remove-append_right xs (x ∷ []) (length xs) (length xs) refl (omega arith) ∙ ap (λ n. xs ++ remove (x ∷ []) n) none ∙ append-nil xs
 
-pub push_new-requires-in-loop-index-clause-missing : goal.push_new-requires-in-loop-index-clause-missing
-push_new-requires-in-loop-index-clause-missing c =
-    let now : Store WellFormed = c.loop-index.self in
-    let within : c.loop-index.index < length now.pairs = omega (arith, c.loop-index-test.true, c.loop-index.invariant.length) in
-    ap (λ ps. at ps c.swap_out-key.result.0) c.swap_out-key.ensures.pairs
-    ∙ (ap (at (swap_out now.pairs c.loop-index.index))
-    (sym (key_got now.pairs c.loop-index.index c.swap_out-key.result c.swap_out-key.ensures.pair))
-    ∙ swapped_lacks now.pairs c.loop-index.index now.distinct within)
-
-pub loop-index-preserved : goal.loop-index-preserved
-loop-index-preserved c =
-    let now : Store WellFormed = c.loop-index.self in
-    let index = c.loop-index.index in
-    let was = c.loop-index.invariant in
-    let pair = c.swap_out-key.result in
-    let pushed : c.push_new-in-loop-index.new.self.pairs ≡ swap_out now.pairs index ++ pair ∷ [] =
-    c.push_new-in-loop-index.ensures.pairs ∙ ap (λ ps. ps ++ pair ∷ []) c.swap_out-key.ensures.pairs in
-    let within : index < length now.pairs = omega (arith, c.loop-index-test.true, was.length) in
-    let before : index < c.len-last.result = omega (arith, c.loop-index-test.true) in
-    record {
-      turned = subst (λ ps. IsTurned (insert c.args.self.now.pairs c.args.position (c.args.key, c.args.value)) ps
-          (c.len-last.result - (index + 1))) (sym pushed)
-          (turned_more (insert c.args.self.now.pairs c.args.position (c.args.key, c.args.value)) now.pairs index c.len-last.result pair
-          was.turned before was.length c.swap_out-key.ensures.pair);
-      length = omega (
-        arith,
-        ap length pushed,
-        length-append (swap_out now.pairs index) (pair ∷ []),
-        length-swap_out now.pairs index within,
-        keys-length (swap_out now.pairs index),
-        was.length,
-      );
-      capacity = c.push_new-in-loop-index.ensures.capacity ∙ (c.swap_out-key.ensures.capacity ∙ was.capacity);
-    }
+  -- an item inserted past the end is appended
+  insert_within : (i : ℕ) → insert xs (min i (length xs)) x ≡ insert xs i x
+  insert_within i = elim (cases_lt (length xs) i) [
+    | inl past ↦
+        let end : min i (length xs) ≡ length xs = grind (arith, nat_tests, past) in
+        ap (λ n. insert xs n x) end
+        ∙ ap₂ (λ ys zs. ys ++ x ∷ zs) (take_all (length xs) xs (omega arith) ∙ sym (take_all i xs (omega (arith, past))))
+        (drop_all (length xs) xs (omega arith) ∙ sym (drop_all i xs (omega (arith, past))))
+    | inr within ↦
+        let same : min i (length xs) ≡ i = grind (arith, nat_tests, within) in
+        ap (λ n. insert xs n x) same
+  ]
 
 pub returns-clause-pairs : goal.returns-clause-pairs
 returns-clause-pairs c =
-    let was = c.loop-index.invariant in
-    turned_last (insert c.args.self.now.pairs c.args.position (c.args.key, c.args.value)) c.loop-index.self.pairs
-    (c.len-last.result - c.loop-index.index) was.turned (omega (arith, c.loop-index-test.false))
+    let old : List (List ℕ × WellFormed) = c.args.self.now.pairs in
+    let pair : List ℕ × WellFormed = (c.args.key, c.args.value) in
+    let pushed = c.push_hashed.ensures.pairs in
+    let last = c.len-last.ensures in
+    c.move_index.ensures.pairs pair ((λ j. slice_get (pushed j) (last j)) ∙ got_last old c.args.key c.args.value)
+    ∙ ap (λ ps. insert ps c.min.result pair) ((λ j. shift_out (pushed j) (last j)) ∙ last_out old pair)
+    ∙ ap (λ n. insert old n pair) (c.min.ensures ∙ ap (min c.args.position) last)
+    ∙ insert_within old pair c.args.position

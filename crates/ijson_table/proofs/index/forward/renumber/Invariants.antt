@@ -1,0 +1,9 @@
+use Rattle.std.proofs.Common.{◌≡◌, ◌++◌, map, take, drop}
+use Rattle.ijson_table.specs.private.Moving.{renumbered}
+use Rattle.ijson_table.proofs.index.forward.renumber.Given as goal
+
+-- the first slots are renumbered, and the rest are unchanged
+abbrev pub invariant-loop-slot : goal.invariant-loop-slot
+invariant-loop-slot g l =
+    let old = map g.S.StoredSlot.stands_for l.fn.slots in
+    map g.S.StoredSlot.stands_for l.slots ≡ map (renumbered l.from l.to) (take l.slot old) ++ drop l.slot old
