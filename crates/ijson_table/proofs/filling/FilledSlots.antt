@@ -1,36 +1,38 @@
 -- Writing entries sorted by home slot to empty slots, one by one.
-use Rattle.std.proofs.Common.{◌≡◌, ◌≢◌, ◌⊎◌, ℕ, suc, ◌+◌, ◌<◌, ◌≤◌, inl, inr, arith, List, length, get_or, set, take, None, ap, sym}
+use Rattle.std.proofs.Common.{◌≡◌, ◌⊎◌, ℕ, suc, ◌+◌, ◌<◌, ◌≤◌, inl, inr, arith, List, length, get_or, map, set, take, None, ◌%◌, ap, sym}
 use Rattle.std.proofs.Common.{refl, subst, ◌∙◌, get_or-set_other}
 use Rattle.std.specs.List.{All}
 use Rattle.std.proofs.lemmas.Bool.{cases_eq}
 use Rattle.std.proofs.lemmas.Grind.{get_or-set_at}
-use Rattle.std.proofs.lemmas.List.{length-set, take_all}
+use Rattle.std.proofs.lemmas.List.{get_or-map, length-map, length-set, take_all}
 use Rattle.std.proofs.lemmas.List.Elements.{All-get_or, All-from_get_or}
 use Rattle.ijson_table.specs.declared.slot.Slot.{Slot}
+use Rattle.ijson_table.specs.declared.sorting.order.HashedIndex.{HashedIndex}
 use Rattle.ijson_table.specs.Crowd.{distance}
 use Rattle.ijson_table.specs.Slots.{after, displacement, times}
-use Rattle.ijson_table.specs.private.Entries.{AreEntries}
+use Rattle.ijson_table.specs.private.Entries.{index_in, slot_for, AreEntries, IsHashed}
 use Rattle.ijson_table.specs.private.Holds.{one_if}
-use Rattle.ijson_table.specs.private.Homes.{home_in, home_of_entry}
+use Rattle.ijson_table.specs.private.Homes.{home_of_entry}
 use Rattle.ijson_table.specs.private.Insertion.{IsTableOf}
 use Rattle.ijson_table.specs.private.SlotHashes.{blank, position_in, positions, HasHash, HaveHashes}
+use Rattle.ijson_table.specs.private.Sorting.{past_last}
 use Rattle.ijson_table.proofs.arithmetic.Circular.{after-below, after-injective}
 use Rattle.ijson_table.proofs.filling.Spots.{ArePlaces}
 use Rattle.ijson_table.proofs.probing.ProbePath.{displacement-none}
 use Rattle.ijson_table.proofs.shifting.Removal.{times-none}
-use Rattle.ijson_table.proofs.slots.HashesInSlots.{all_empty, displacement-read, hashes-at, nothing_has_hash}
+use Rattle.ijson_table.proofs.slots.HashesInSlots.{all_empty, displacement-read, has_own_hash, nothing_has_hash}
 use Rattle.ijson_table.proofs.slots.HashesInSlots.{position-at, positions-length, positions-set}
-use Rattle.ijson_table.proofs.slots.Residents.{some_position, times-set, times-more, times-nil}
+use Rattle.ijson_table.proofs.slots.Residents.{times-set, times-more, times-nil}
 
 -- The first k entries are in their slots, and the other slots are empty.
-pub record Filled (n : ℕ) (p : ℕ → ℕ) (sorted : List Slot) (k : ℕ) (slots : List Slot) : Type 0 where
+pub record Filled (n : ℕ) (p : ℕ → ℕ) (sorted : List HashedIndex) (k : ℕ) (slots : List Slot) : Type 0 where
   pub count : length slots ≡ n
-  pub there : (j : ℕ) → j < k → get_or slots (p j) blank ≡ get_or sorted j blank
+  pub there : (j : ℕ) → j < k → get_or slots (p j) blank ≡ slot_for (get_or sorted j past_last)
   pub others : (q : ℕ) → q < n → (position_in (get_or slots q blank) ≡ None) ⊎ ((j : ℕ) × (j < k) × (q ≡ p j))
-  pub placed : (i : ℕ) → times i (positions slots) ≡ times i (take k (positions sorted))
+  pub placed : (i : ℕ) → times i (positions slots) ≡ times i (take k (map index_in sorted))
 
 -- before the first entry
-pub filled_none : (n : ℕ) (p : ℕ → ℕ) (sorted slots : List Slot) → length slots ≡ n → All (λ slot. position_in slot ≡ None) slots
+pub filled_none : (n : ℕ) (p : ℕ → ℕ) (sorted : List HashedIndex) (slots : List Slot) → length slots ≡ n → All (λ slot. position_in slot ≡ None) slots
     → Filled n p sorted 0 slots
 filled_none n p sorted slots count empty = record {
   count = count;
@@ -40,10 +42,10 @@ filled_none n p sorted slots count empty = record {
 }
 
 -- one more entry
-pub filled_more : (n : ℕ) (p : ℕ → ℕ) (sorted : List Slot) → ArePlaces n sorted p → (k : ℕ) (slots : List Slot) → k < length sorted
-    → Filled n p sorted k slots → Filled n p sorted (k + 1) (set slots (p k) (get_or sorted k blank))
+pub filled_more : (n : ℕ) (p : ℕ → ℕ) (sorted : List HashedIndex) → ArePlaces n sorted p → (k : ℕ) (slots : List Slot) → k < length sorted
+    → Filled n p sorted k slots → Filled n p sorted (k + 1) (set slots (p k) (slot_for (get_or sorted k past_last)))
 filled_more n p sorted places k slots lk f =
-    let entry : Slot = get_or sorted k blank in
+    let entry : Slot = slot_for (get_or sorted k past_last) in
     let lp : p k < length slots = omega (arith, f.count, places.below k lk) in
     let free : position_in (get_or slots (p k) blank) ≡ None = elim (f.others (p k) (places.below k lk)) [
       | inl none ↦ none
@@ -52,7 +54,7 @@ filled_more n p sorted places k slots lk f =
     record {
       count = length-set slots (p k) entry ∙ f.count;
       there = λ j lj. elim (cases_eq j k) [
-        | inl same ↦ get_or-set_at slots (p k) (p j) entry blank (ap p same) lp ∙ ap (λ i. get_or sorted i blank) (sym same)
+        | inl same ↦ get_or-set_at slots (p k) (p j) entry blank (ap p same) lp ∙ ap (λ i. slot_for (get_or sorted i past_last)) (sym same)
         | inr ne ↦ let less : j < k = omega (arith, lj, ne) in
             get_or-set_other slots (p k) (p j) entry blank (places.apart j k less lk) ∙ f.there j less
       ];
@@ -69,14 +71,14 @@ filled_more n p sorted places k slots lk f =
         ap (times i) (positions-set slots (p k) entry),
         times-set i (positions slots) (p k) (position_in entry) (omega (arith, lp, positions-length slots)),
         ap (one_if i) (position-at slots (p k) None lp (sym free)),
-        ap (λ l. times i (take l (positions sorted))) (let e : k + 1 ≡ suc k = omega arith in e),
-        times-more i (positions sorted) k (omega (arith, lk, positions-length sorted)),
-        ap (one_if i) (position-at sorted k (position_in entry) lk refl),
+        ap (λ l. times i (take l (map index_in sorted))) (let e : k + 1 ≡ suc k = omega arith in e),
+        times-more i (map index_in sorted) k (omega (arith, lk, length-map sorted index_in)),
+        ap (one_if i) (get_or-map index_in sorted k past_last None lk),
       );
     }
 
 -- after all entries
-module _ (p : ℕ → ℕ) (sorted slots : List Slot) (places : ArePlaces (length slots) sorted p)
+module _ (p : ℕ → ℕ) (sorted : List HashedIndex) (slots : List Slot) (places : ArePlaces (length slots) sorted p)
     (f : Filled (length slots) p sorted (length sorted) slots) (hashes : List ℕ) (are : AreEntries (length slots) hashes sorted) where
   abbrev n : ℕ
   n = length slots
@@ -88,14 +90,13 @@ module _ (p : ℕ → ℕ) (sorted slots : List Slot) (places : ArePlaces (lengt
   have = All-from_get_or (HasHash n hashes) slots blank (λ q lq. elim (f.others q lq) [
     | inl none ↦ nothing_has_hash n hashes (get_or slots q blank) none
     | inr it ↦ subst (HasHash n hashes) (sym (ap (λ p. get_or slots p blank) it.2 ∙ f.there it.0 it.1))
-        (hashes-at n hashes sorted it.0 are.hashes_are it.1)
+        (has_own_hash n hashes (slot_for (get_or sorted it.0 past_last)) (get_or sorted it.0 past_last).index refl
+        (All-get_or (IsHashed n hashes) sorted it.0 past_last it.1 are.hashes_are))
   ])
 
   displaced : (k : ℕ) → k < length sorted → d (p k) ≡ distance n (home_of_entry n sorted k) (p k) + 1
-  displaced k lk =
-      let who = some_position (position_in (get_or sorted k blank)) (All-get_or (λ e. position_in e ≢ None) sorted k blank lk are.some) in
-      displacement-read hashes slots (p k) who.0 (distance n (home_of_entry n sorted k) (p k)) have (places.below k lk)
-      (sym (ap position_in (f.there k lk) ∙ who.1)) (ap (λ e. distance n (home_in n e) (p k)) (sym (f.there k lk)))
+  displaced k lk = displacement-read hashes slots (p k) (get_or sorted k past_last).index (distance n (home_of_entry n sorted k) (p k)) have
+      (places.below k lk) (sym (ap position_in (f.there k lk))) (ap (λ slot. distance n (slot.hash % n) (p k)) (sym (f.there k lk)))
 
   in_order : (q : ℕ) → q < n → d (after n q) ≤ d q + 1
   in_order q lq = elim (f.others (after n q) (after-below n q lq)) [
@@ -120,12 +121,12 @@ module _ (p : ℕ → ℕ) (sorted slots : List Slot) (places : ArePlaces (lengt
         in_order q (omega (arith, lq, positions-length slots)),
         ap (λ n. d (after n q)) (positions-length slots),
       );
-      placed = λ i. f.placed i ∙ (ap (times i) (take_all (length sorted) (positions sorted) (omega (arith, positions-length sorted))) ∙ are.placed i);
+      placed = λ i. f.placed i ∙ (ap (times i) (take_all (length sorted) (map index_in sorted) (omega (arith, length-map sorted index_in))) ∙ are.placed i);
     };
     hashes_are = have;
   }
 
-pub filled_all : (n k : ℕ) (p : ℕ → ℕ) (sorted slots : List Slot) → ArePlaces n sorted p → k ≡ length sorted → Filled n p sorted k slots
+pub filled_all : (n k : ℕ) (p : ℕ → ℕ) (sorted : List HashedIndex) (slots : List Slot) → ArePlaces n sorted p → k ≡ length sorted → Filled n p sorted k slots
     → (hashes : List ℕ) → AreEntries n hashes sorted → IsTableOf hashes slots
 filled_all n k p sorted slots places all f =
     subst (λ n. ArePlaces n sorted p → Filled n p sorted (length sorted) slots

@@ -4,13 +4,12 @@ use Rattle.std.specs.Prelude.{ltb, if◌then◌else◌}
 use Rattle.std.proofs.lemmas.Bool.{cases_eq, cases_lt}
 use Rattle.std.proofs.lemmas.Bool.Decides.{nat_tests}
 use Rattle.std.proofs.lemmas.Nat.{mod_below}
-use Rattle.ijson_table.specs.declared.slot.Slot.{Slot}
+use Rattle.ijson_table.specs.declared.sorting.order.HashedIndex.{HashedIndex}
 use Rattle.ijson_table.specs.Crowd.{distance}
 use Rattle.ijson_table.specs.Slots.{after}
 use Rattle.ijson_table.specs.private.EntryOrder.{entry_before}
 use Rattle.ijson_table.specs.private.Homes.{home_of_entry, next_after, passing}
-use Rattle.ijson_table.specs.private.SlotHashes.{blank}
-use Rattle.ijson_table.specs.private.Sorting.{IsSortedBy}
+use Rattle.ijson_table.specs.private.Sorting.{past_last, IsSortedBy}
 use Rattle.ijson_table.proofs.firsts.KeyTies.{homes_ascend, sorted_at}
 
 -- the slot at a number below 2 * n, around the end of n slots
@@ -43,21 +42,21 @@ module _ (h : ℕ → ℕ) (s : ℕ) where
   from_start (suc k) = omega (arith, from_start k)
 
 -- the number of the slot of each entry if those that pass the end take the first slots
-abbrev pub spot : ℕ → List Slot → ℕ → ℕ
+abbrev pub spot : ℕ → List HashedIndex → ℕ → ℕ
 spot n sorted k = max (next_after (home_of_entry n sorted) (passing n sorted) k) (home_of_entry n sorted k)
 
-abbrev pub place : ℕ → List Slot → ℕ → ℕ
+abbrev pub place : ℕ → List HashedIndex → ℕ → ℕ
 place n sorted k = wrapped n (spot n sorted k)
 
 -- Different slots for entries. Each is the home slot, or comes after one that is displaced as far, but for one slot.
-pub record ArePlaces (n : ℕ) (sorted : List Slot) (p : ℕ → ℕ) : Type 0 where
+pub record ArePlaces (n : ℕ) (sorted : List HashedIndex) (p : ℕ → ℕ) : Type 0 where
   pub below : (k : ℕ) → k < length sorted → p k < n
   pub apart : (j k : ℕ) → j < k → k < length sorted → p j ≢ p k
   pub led : (k : ℕ) → k < length sorted → (distance n (home_of_entry n sorted k) (p k) ≡ 0)
       ⊎ ((i : ℕ) × (i < length sorted) × (after n (p i) ≡ p k)
       × (distance n (home_of_entry n sorted k) (p k) ≤ distance n (home_of_entry n sorted i) (p i) + 1))
 
-module _ (n : ℕ) (sorted : List Slot) (room : length sorted ≤ n) (keys : List (List ℕ))
+module _ (n : ℕ) (sorted : List HashedIndex) (room : length sorted ≤ n) (keys : List (List ℕ))
     (ordered : IsSortedBy (entry_before n keys) sorted) where
   abbrev m : ℕ
   m = length sorted
@@ -72,10 +71,10 @@ module _ (n : ℕ) (sorted : List Slot) (room : length sorted ≤ n) (keys : Lis
   at k = spot n sorted k
 
   h-below : (k : ℕ) → k < m → h k < n
-  h-below k lk = mod_below (get_or sorted k blank).hash n (omega (arith, room))
+  h-below k lk = mod_below (get_or sorted k past_last).hash n (omega (arith, room))
 
   h-ascends : (j k : ℕ) → j < k → k < m → h j ≤ h k
-  h-ascends j k less lk = homes_ascend n keys (get_or sorted j blank) (get_or sorted k blank) (sorted_at (entry_before n keys) sorted ordered j k less lk)
+  h-ascends j k less lk = homes_ascend n keys (get_or sorted j past_last) (get_or sorted k past_last) (sorted_at (entry_before n keys) sorted ordered j k less lk)
 
   -- k entries, and the later ones, from the first slot on
   split : (k : ℕ) → k < m → n + w + k ≤ max (n + k) (max (h k + k) (n - 1) + m)

@@ -2,6 +2,8 @@
 use Rattle.std.proofs.Common.{◌≡◌, ℕ, zero, suc, ◌+◌, ◌*◌, ◌%◌, ◌<◌, ◌≤◌, Option, Some, None, arith}
 use Rattle.std.proofs.Math.Nat.{mod-lt}
 use Rattle.ijson_table.specs.declared.slot.Slot.{Slot}
+use Rattle.ijson_table.specs.declared.sorting.order.HashedIndex.{HashedIndex}
+use Rattle.ijson_table.specs.private.Entries.{slot_for}
 use Rattle.ijson_table.specs.private.KeptHash.{narrow_slots, kept}
 use Rattle.ijson_table.specs.private.Narrow.{Fits, MayHold}
 use Rattle.ijson_table.specs.private.SlotHashes.{coded_position, position_in}
@@ -14,6 +16,11 @@ code-of (suc k) i e =
     let is : ◌≡◌ {A = Option ℕ} (Some k) (Some i) = e in
     let same : k ≡ i = cc in
     omega (arith, same)
+
+-- the slot of an index and a hash
+pub slot_is : (slot : Slot) (entry : HashedIndex) → position_in slot ≡ Some entry.index → slot.hash ≡ entry.hash → slot ≡ slot_for entry
+slot_is slot entry at same = let code : slot.code ≡ suc entry.index = omega (arith, code-of slot.code entry.index at) in
+    λ k. record { code = code k; hash = same k }
 
 -- a slot fits if its index and its hash do
 pub fits_at : (n : ℕ) (slot : Slot) (i : ℕ) → position_in slot ≡ Some i → (n ≤ narrow_slots → i + 1 < 256)

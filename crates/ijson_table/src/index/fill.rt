@@ -1,4 +1,4 @@
-//! Filling slots from entries sorted by home slot: each entry is written once, and no slot is inspected.
+//! Filling slots from hashed indices sorted by home slot: each is written once, and no slot is inspected.
 
 ghost use Rattle.std.specs.Prelude.{◌≡◌, ℕ, ◌+◌, ◌-◌, ◌*◌, ◌^◌, ◌<◌, ◌≤◌, [], List, length, map, OnOk};
 ghost use Rattle.ijson_table.specs.Growth.{capacity_limit};
@@ -11,15 +11,15 @@ ghost use Rattle.ijson_table.specs.private.Sorting.{IsSortedBy};
 
 use crate::hash::KeyHash;
 use crate::index::slots::Slots;
-use crate::slot::{Modulus, Slot};
+use crate::slot::Modulus;
 use crate::sorting::build::sorted_entries;
-use crate::sorting::order::EntryOrder;
+use crate::sorting::order::{EntryOrder, HashedIndex};
 use ijson_number::Looks;
 use ijson_string::IString;
 use std::alloc::{AllocError, Global};
 
-/// Returns the number of entries that pass the end of the slots if they are written from the first slot on.
-fn past_end(sorted: &[Slot], modulus: Modulus) -> usize
+/// Returns the number of hashed indices that pass the end of the slots if they are written from the first slot on.
+fn past_end(sorted: &[HashedIndex], modulus: Modulus) -> usize
     requires few { modulus.count ≤ 2 ^ 60 }
     requires limited { length sorted.now ≤ 2 ^ 60 }
     ensures { result ≡ passing modulus.count sorted.now }
@@ -31,15 +31,15 @@ fn past_end(sorted: &[Slot], modulus: Modulus) -> usize
     next.saturating_sub(modulus.count)
 }
 
-/// Fills empty slots, enough for all entries, from entries sorted by home slot.
+/// Fills empty slots, enough for all of them, from hashed indices sorted by home slot.
 ///
-/// Each is written to its home slot, or to the slot after the previous entry if that is further on. Entries that pass
-/// the end take the first slots.
+/// Each is written to its home slot, or to the slot after the previous one if that is further on. Those that pass the
+/// end take the first slots.
 ///
 /// # Cost
 ///
-/// Linear in the number of entries, whatever their home slots.
-fn fill(slots: &mut Slots, sorted: &[Slot], modulus: Modulus)
+/// Linear in their number, whatever their home slots.
+fn fill(slots: &mut Slots, sorted: &[HashedIndex], modulus: Modulus)
     requires counted { modulus.count ≡ length slots.old }
     requires few { length slots.old ≤ 2 ^ 60 }
     requires empty { IsTableOf [] slots.old }
@@ -55,14 +55,14 @@ fn fill(slots: &mut Slots, sorted: &[Slot], modulus: Modulus)
         let entry = sorted[index];
         let spot = next.max(modulus.home_of_hash(entry.hash));
         let slot = if spot < count { spot } else { spot - count };
-        slots.set(slot, entry);
+        slots.set(slot, entry.slot());
         next = spot + 1;
     }
 }
 
 /// Fills empty slots with the indices of pairs, by sorting.
 ///
-/// The slots are enough for all of them. Each comparison of two entries is counted, and each key is hashed once.
+/// The slots are enough for all of them. Each comparison is counted, and each key is hashed once.
 pub fn fill_sorted<V, H: KeyHash>(
     alloc: Global,
     pairs: &[(IString, V)],

@@ -1,23 +1,22 @@
-//! An earlier index of each duplicate key, by one pass over the sorted entries.
+//! An earlier index of each duplicate key, by one pass over sorted hashed indices.
 
 ghost use Rattle.std.specs.Prelude.{◌≡◌, ℕ, List, ◌+◌, ◌<◌, ◌≤◌, ◌^◌, length, IfOk, OnErr, IsTrue, ◌↔◌};
 ghost use Rattle.ijson_table.specs.Store.{keys_of};
 ghost use Rattle.ijson_table.specs.private.EntryOrder.{entry_key, AreEarlier, AreInOrder};
 
-use crate::slot::Slot;
-use crate::sorting::order::key_of;
+use crate::sorting::order::{HashedIndex, key_of};
 use ijson_number::Looks;
 use ijson_string::IString;
 use std::alloc::{AllocError, Global};
 
 /// Returns, for each index of the pairs, the previous index with the same key, or the index itself if there is none.
 ///
-/// `sorted` has the entries of all pairs in the order of `EntryOrder`: entries of one key are adjacent, by their indices.
-/// Each entry counts as one inspection, in which two keys are compared if their hashes are equal. An empty list does not
-/// allocate.
+/// `sorted` has the hashed indices of all pairs in the order of `EntryOrder`: those of one key are adjacent, in ascending
+/// order. Each counts as one inspection, in which two keys are compared if their hashes are equal. An empty list does
+/// not allocate.
 pub fn earlier_positions<V>(
     alloc: Global,
-    sorted: &[Slot],
+    sorted: &[HashedIndex],
     pairs: &[(IString, V)],
     looks: &mut Looks,
 ) -> Result<Vec<usize>, AllocError>
@@ -32,21 +31,21 @@ pub fn earlier_positions<V>(
         return Ok(Vec::new(alloc));
     }
     let mut earlier = vec![in alloc; 0; pairs.len()]?;
-    // The previous entry, or this one if their keys differ.
+    // The previous one, or this one if their keys differ.
     let mut last = sorted[0];
     for entry in sorted {
         looks.add_one();
         if !has_same_key(pairs, last, *entry) {
             last = *entry;
         }
-        earlier[entry.position().unwrap()] = last.position().unwrap();
+        earlier[entry.index] = last.index;
         last = *entry;
     }
     Ok(earlier)
 }
 
-/// Returns `true` if two entries have the same key and the same hash.
-fn has_same_key<V>(pairs: &[(IString, V)], first: Slot, second: Slot) -> bool
+/// Returns `true` if two hashed indices have the same key and the same hash.
+fn has_same_key<V>(pairs: &[(IString, V)], first: HashedIndex, second: HashedIndex) -> bool
     ensures { IsTrue result ↔ ((first.hash ≡ second.hash)
         × (entry_key (keys_of pairs.now) first ≡ entry_key (keys_of pairs.now) second)) }
 {

@@ -1,8 +1,9 @@
 use Rattle.std.proofs.Common.{◌≡◌, ◌+◌, ℕ, get_or, set, arith, ap, sym, ◌∙◌, subst}
 use Rattle.std.proofs.lemmas.Bool.Decides.{nat_tests}
 use Rattle.ijson_table.specs.private.Narrow.{Fits}
-use Rattle.ijson_table.specs.private.SlotHashes.{blank}
-use Rattle.ijson_table.proofs.building.EntriesInOrder.{entry_fits}
+use Rattle.ijson_table.specs.private.Entries.{slot_for}
+use Rattle.ijson_table.specs.private.Sorting.{past_last}
+use Rattle.ijson_table.proofs.building.EntriesInOrder.{entry_fits, entry_within}
 use Rattle.ijson_table.proofs.filling.FilledSlots.{Filled, filled_all, filled_more, filled_none}
 use Rattle.ijson_table.proofs.filling.Spots.{place, places, wrapped, ArePlaces}
 use Rattle.ijson_table.proofs.slots.SlotTables.{each_empty}
@@ -31,6 +32,12 @@ place_is c =
       | else-spot-count w ↦ grind (arith, nat_tests, c.max-spot.ensures, next, home, w.slot-is, w.if-spot-count.false)
     ]
 
+pub slot-requires : goal.slot-requires
+slot-requires c =
+    let are = c.requires.entries.1 in
+    let within = entry_within c.args.modulus.count c.requires.entries.0 c.args.sorted.now are c.loop-index.index c.loop-index-test.true in
+    omega (arith, within, are.count, c.requires.room, c.requires.few)
+
 pub set-requires-clause-within : goal.set-requires-clause-within
 set-requires-clause-within c =
     let before = goal.at.set-requires-clause-within c in
@@ -38,9 +45,9 @@ set-requires-clause-within c =
     omega (arith, place_is before.Joined-spot-count, inside, c.loop-index.invariant.filled.count)
 
 pub set-requires-clause-fits : goal.set-requires-clause-fits
-set-requires-clause-fits c = subst (λ n. Fits n (get_or c.args.sorted.now c.loop-index.index blank)) (sym c.loop-index.invariant.filled.count)
-    (entry_fits c.args.modulus.count c.requires.entries.0 c.args.sorted.now c.requires.entries.1 c.loop-index.index c.loop-index-test.true
-    (omega (arith, c.requires.room, c.requires.counted)))
+set-requires-clause-fits c = subst (λ n. Fits n c.slot.result) (sym c.loop-index.invariant.filled.count)
+    (subst (Fits c.args.modulus.count) (sym c.slot.ensures) (entry_fits c.args.modulus.count c.requires.entries.0 c.args.sorted.now c.requires.entries.1 c.loop-index.index c.loop-index-test.true
+    (omega (arith, c.requires.room, c.requires.counted))))
 
 pub overflow_add-next : goal.overflow_add-next
 unfolding wrapped
@@ -57,7 +64,8 @@ loop-index-preserved c =
     record {
       next = grind (arith, nat_tests, c.max-spot.ensures, c.loop-index.invariant.next, c.home_of_hash.ensures.value);
       filled = subst (Filled c.args.modulus.count (place c.args.modulus.count sorted) sorted (k + 1))
-          (ap (λ p. set c.loop-index.slots p (get_or sorted k blank)) (sym (place_is before.Joined-spot-count)) ∙ sym c.set.ensures)
+          (ap (λ p. set c.loop-index.slots p (slot_for (get_or sorted k past_last))) (sym (place_is before.Joined-spot-count))
+          ∙ ap (set c.loop-index.slots c.if-spot-count.slot) (sym c.slot.ensures) ∙ sym c.set.ensures)
           (filled_more c.args.modulus.count (place c.args.modulus.count sorted) sorted (are_places before.Start) k c.loop-index.slots
           c.loop-index-test.true c.loop-index.invariant.filled);
     }

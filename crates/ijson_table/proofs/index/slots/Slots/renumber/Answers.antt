@@ -1,6 +1,5 @@
-use Rattle.std.proofs.Common.{◌≡◌, ◌∙◌, ℕ, List, drop, map, take, ap, arith, sym, subst}
+use Rattle.std.proofs.Common.{◌∙◌, drop, map, take, ap, arith, sym, subst}
 use Rattle.std.proofs.lemmas.List.{length-take, map-id, take_at, with_items_is}
-use Rattle.ijson_table.specs.declared.slot.Slot.{Slot}
 use Rattle.ijson_table.specs.declared.index.slots.Slots.TheInside.{Inside}
 use Rattle.ijson_table.specs.private.Moving.{renumbered}
 use Rattle.ijson_table.specs.private.Narrow.{widened}
