@@ -17,10 +17,10 @@ impl IObject {
     /// Returns the entry at an index, or `None` if it is out of bounds.
     ///
     /// It takes constant time.
-    pub fn get_index(&self, position: usize) -> Option<(&IString, &IValue)>
-        ensures { option_map deref_pair result ≡ slice_get self.now.pairs position }
+    pub fn get_index(&self, index: usize) -> Option<(&IString, &IValue)>
+        ensures { option_map deref_pair result ≡ slice_get self.now.pairs index }
     {
-        match self.as_slice().get(position) {
+        match self.as_slice().get(index) {
             Some(pair) => Some((&pair.0, &pair.1)),
             None => None,
         }
@@ -29,13 +29,13 @@ impl IObject {
     /// Returns a mutable reference to the value at an index, or `None` if it is out of bounds.
     ///
     /// It takes constant time.
-    pub fn value_at_mut(&mut self, position: usize) -> Option<&mut IValue>
-        ensures* writes_back { sem 𝓛 (LendsValueIf self.entry position result) }
+    pub fn value_at_mut(&mut self, index: usize) -> Option<&mut IValue>
+        ensures* writes_back { sem 𝓛 (LendsValueIf self.entry index result) }
         ensures value { option_map (λ value. value.now) result
-            ≡ option_map (λ pair. pair.1) (slice_get self.old.pairs position) }
+            ≡ option_map (λ pair. pair.1) (slice_get self.old.pairs index) }
     {
-        if position < self.len() {
-            Some(self.value_mut(position))
+        if index < self.len() {
+            Some(self.value_mut(index))
         } else {
             None
         }
@@ -45,7 +45,7 @@ impl IObject {
     #[tactic(auto, using(ijson_table::proofs::pairs::PairsByKey::position_within))]
     pub(super) fn position(&self, key: &str) -> Option<usize>
         ensures position { result ≡ at self.now.pairs key.now }
-        ensures within { IfSome result (λ position. position < length self.now.pairs) }
+        ensures within { IfSome result (λ index. index < length self.now.pairs) }
     {
         match &self.table {
             None => None,
@@ -58,7 +58,7 @@ impl IObject {
     pub(super) fn position_hashed(&self, key: &str, hash: u64) -> Option<usize>
         requires { hash ≡ fold_words key.now }
         ensures position { result ≡ at self.now.pairs key.now }
-        ensures within { IfSome result (λ position. position < length self.now.pairs) }
+        ensures within { IfSome result (λ index. index < length self.now.pairs) }
     {
         match &self.table {
             None => None,
@@ -67,30 +67,30 @@ impl IObject {
     }
 
     /// Returns the entry at an index.
-    pub(super) fn pair(&self, position: usize) -> (&IString, &IValue)
-        requires { position < length self.now.pairs }
-        ensures { slice_get self.now.pairs position ≡ Some (result.0.now, result.1.now) }
+    pub(super) fn pair(&self, index: usize) -> (&IString, &IValue)
+        requires { index < length self.now.pairs }
+        ensures { slice_get self.now.pairs index ≡ Some (result.0.now, result.1.now) }
     {
-        let pair = &self.as_slice()[position];
+        let pair = &self.as_slice()[index];
         (&pair.0, &pair.1)
     }
 
     /// Returns a mutable reference to the value at an index.
-    pub(super) fn value_mut(&mut self, position: usize) -> &mut IValue
-        requires { position < length self.old.pairs }
-        ensures* writes_back { sem 𝓛 (LendsValue self.entry position result) }
-        ensures value { (key : List ℕ) × (slice_get self.old.pairs position ≡ Some (key, result.now)) }
+    pub(super) fn value_mut(&mut self, index: usize) -> &mut IValue
+        requires { index < length self.old.pairs }
+        ensures* writes_back { sem 𝓛 (LendsValue self.entry index result) }
+        ensures value { (key : List ℕ) × (slice_get self.old.pairs index ≡ Some (key, result.now)) }
     {
-        self.pair_mut(position).1
+        self.pair_mut(index).1
     }
 
     /// Returns the key at an index, and a mutable reference to its value.
-    pub(super) fn pair_mut(&mut self, position: usize) -> (&IString, &mut IValue)
-        requires { position < length self.old.pairs }
-        ensures* writes_back { sem 𝓛 (LendsValue self.entry position result.1) }
-        ensures pair { slice_get self.old.pairs position ≡ Some (result.0.now, result.1.now) }
+    pub(super) fn pair_mut(&mut self, index: usize) -> (&IString, &mut IValue)
+        requires { index < length self.old.pairs }
+        ensures* writes_back { sem 𝓛 (LendsValue self.entry index result.1) }
+        ensures pair { slice_get self.old.pairs index ≡ Some (result.0.now, result.1.now) }
     {
-        self.table.as_mut().unwrap().pair_mut(position)
+        self.table.as_mut().unwrap().pair_mut(index)
     }
 
     /// Appends an entry whose key has this hash, within the capacity.
@@ -105,16 +105,16 @@ impl IObject {
     }
 
     /// Inserts an entry whose key has this hash at an index, or appends it if the index is past the end, within the capacity.
-    pub(super) fn insert_new(&mut self, position: usize, key: IString, value: IValue, hash: u64)
+    pub(super) fn insert_new(&mut self, index: usize, key: IString, value: IValue, hash: u64)
         requires missing { at self.old.pairs key ≡ None }
         requires hash { hash ≡ fold_words key }
         requires within { length self.old.pairs < self.old.capacity }
-        ensures pairs { self.new.pairs ≡ insert self.old.pairs position (key, value) }
+        ensures pairs { self.new.pairs ≡ insert self.old.pairs index (key, value) }
         ensures capacity { self.new.capacity ≡ self.old.capacity }
     {
         let last = self.len();
         self.push_hashed(key, value, hash);
-        self.move_index(last, position.min(last));
+        self.move_index(last, index.min(last));
     }
 
     /// Moves the entry at index `from` to index `to`; those in between move by one index.
@@ -129,34 +129,34 @@ impl IObject {
     }
 
     /// Replaces the key at an index by a missing one, and returns the old key.
-    pub(super) fn replace_key_at(&mut self, position: usize, key: IString) -> IString
-        requires within { position < length self.old.pairs }
+    pub(super) fn replace_key_at(&mut self, index: usize, key: IString) -> IString
+        requires within { index < length self.old.pairs }
         requires missing { at self.old.pairs key ≡ None }
-        ensures key { result ≡ get_or (keys_of self.old.pairs) position [] }
-        ensures pairs { self.new.pairs ≡ with_key self.old.pairs position key }
+        ensures key { result ≡ get_or (keys_of self.old.pairs) index [] }
+        ensures pairs { self.new.pairs ≡ with_key self.old.pairs index key }
         ensures capacity { self.new.capacity ≡ self.old.capacity }
     {
-        self.table.as_mut().unwrap().replace_key_at(position, key)
+        self.table.as_mut().unwrap().replace_key_at(index, key)
     }
 
     /// Removes and returns the entry at an index, which the last entry replaces.
-    pub(super) fn swap_out(&mut self, position: usize) -> (IString, IValue)
-        requires { position < length self.old.pairs }
-        ensures pair { slice_get self.old.pairs position ≡ Some result }
-        ensures pairs { self.new.pairs ≡ swap_out self.old.pairs position }
+    pub(super) fn swap_out(&mut self, index: usize) -> (IString, IValue)
+        requires { index < length self.old.pairs }
+        ensures pair { slice_get self.old.pairs index ≡ Some result }
+        ensures pairs { self.new.pairs ≡ swap_out self.old.pairs index }
         ensures capacity { self.new.capacity ≡ self.old.capacity }
     {
-        self.table.as_mut().unwrap().swap_out(position)
+        self.table.as_mut().unwrap().swap_out(index)
     }
 
     /// Removes and returns the entry at an index, shifting all entries after it.
-    pub(super) fn shift_out(&mut self, position: usize) -> (IString, IValue)
-        requires { position < length self.old.pairs }
-        ensures pair { slice_get self.old.pairs position ≡ Some result }
-        ensures pairs { self.new.pairs ≡ shift_out self.old.pairs position }
+    pub(super) fn shift_out(&mut self, index: usize) -> (IString, IValue)
+        requires { index < length self.old.pairs }
+        ensures pair { slice_get self.old.pairs index ≡ Some result }
+        ensures pairs { self.new.pairs ≡ shift_out self.old.pairs index }
         ensures capacity { self.new.capacity ≡ self.old.capacity }
         ensures spare { length self.new.pairs < self.new.capacity }
     {
-        self.table.as_mut().unwrap().shift_out(position)
+        self.table.as_mut().unwrap().shift_out(index)
     }
 }

@@ -27,7 +27,7 @@ pub enum RefusedReplacement {
 impl IObject {
     /// Inserts an entry at an index, shifting all entries from there on, and returns the old value of its key.
     ///
-    /// An existing key is moved to the index, or to the end if that is the length. `position` must be at most `len`.
+    /// An existing key is moved to the index, or to the end if that is the length. `index` must be at most `len`.
     ///
     /// # Errors
     ///
@@ -39,14 +39,14 @@ impl IObject {
     /// as by `shift_remove`, and hashed twice.
     pub fn shift_insert(
         &mut self,
-        position: usize,
+        index: usize,
         key: IString,
         value: IValue,
     ) -> Result<Option<IValue>, RefusedPair>
-        requires { position ≤ length self.old.pairs }
+        requires { index ≤ length self.old.pairs }
         ensures old { IfOk result (λ old. old ≡ lookup key self.old.pairs) }
         ensures pairs { OnOk result
-            (self.new.pairs ≡ insert (shift_out_key key self.old.pairs) position (key, value)) }
+            (self.new.pairs ≡ insert (shift_out_key key self.old.pairs) index (key, value)) }
         ensures stays { OnOk result (IsSome (lookup key self.old.pairs) → self.new.capacity ≡ self.old.capacity) }
         ensures grows { OnOk result (lookup key self.old.pairs ≡ None
             → Grown (length self.old.pairs) self.old.capacity 1 self.new.capacity) }
@@ -59,12 +59,12 @@ impl IObject {
             Some(found) => {
                 let (same, old) = self.shift_out(found);
                 drop(same);
-                self.insert_new(position, key, value, hash);
+                self.insert_new(index, key, value, hash);
                 Ok(Some(old))
             }
             None => match self.reserve(1) {
                 Ok(()) => {
-                    self.insert_new(position, key, value, hash);
+                    self.insert_new(index, key, value, hash);
                     Ok(None)
                 }
                 Err(why) => Err(RefusedPair { key, value, why }),
@@ -87,12 +87,12 @@ impl IObject {
         ensures replaces { ReplacesKey self.old.pairs old.now new result self.new.pairs }
         ensures capacity { self.new.capacity ≡ self.old.capacity }
     {
-        let Some(position) = self.position(old) else {
+        let Some(index) = self.position(old) else {
             return Err(RefusedReplacement::Missing(new));
         };
         match self.position(new.as_str()) {
-            None => Ok(self.replace_key_at(position, new)),
-            Some(found) if found == position => Ok(new),
+            None => Ok(self.replace_key_at(index, new)),
+            Some(found) if found == index => Ok(new),
             Some(_) => Err(RefusedReplacement::Exists(new)),
         }
     }

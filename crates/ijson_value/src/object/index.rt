@@ -58,7 +58,7 @@ pub trait ObjectIndex: Sealed + Copy {
         ensures { option_map deref_pair result ≡ pair_at_key (Self.Sealed.key self) v.now.pairs }
     {
         match v.position(self.as_key()) {
-            Some(position) => Some(v.pair(position)),
+            Some(index) => Some(v.pair(index)),
             None => None,
         }
     }
@@ -80,7 +80,7 @@ pub trait ObjectIndex: Sealed + Copy {
         ensures capacity { v.new.capacity ≡ v.old.capacity }
     {
         match v.position(self.as_key()) {
-            Some(position) => Some(v.swap_out(position)),
+            Some(index) => Some(v.swap_out(index)),
             None => None,
         }
     }
@@ -98,7 +98,7 @@ pub trait ObjectIndex: Sealed + Copy {
         ensures capacity { v.new.capacity ≡ v.old.capacity }
     {
         match v.position(self.as_key()) {
-            Some(position) => Some(v.shift_out(position)),
+            Some(index) => Some(v.shift_out(index)),
             None => None,
         }
     }
@@ -114,79 +114,79 @@ impl IObject {
     /// Returns the value of a key, or `None` if it does not exist.
     ///
     /// The key is hashed once, and compared with each key on its probe whose kept part of the hash is equal.
-    pub fn get<I: ObjectIndex>(&self, index: I) -> Option<&IValue>
-        ensures { option_copied result ≡ lookup (I.Sealed.key index) self.now.pairs }
+    pub fn get<I: ObjectIndex>(&self, key: I) -> Option<&IValue>
+        ensures { option_copied result ≡ lookup (I.Sealed.key key) self.now.pairs }
     {
         match &self.table {
             None => None,
-            Some(table) => table.get(index.as_key()),
+            Some(table) => table.get(key.as_key()),
         }
     }
 
     /// Returns a mutable reference to the value of a key, or `None` if it does not exist.
-    pub fn get_mut<I: ObjectIndex>(&mut self, index: I) -> Option<&mut IValue>
-        ensures* writes_back { sem 𝓛 (LendsAtKeyIf self.entry (I.Sealed.key index) result) }
-        ensures value { option_copied_mut result ≡ lookup (I.Sealed.key index) self.old.pairs }
+    pub fn get_mut<I: ObjectIndex>(&mut self, key: I) -> Option<&mut IValue>
+        ensures* writes_back { sem 𝓛 (LendsAtKeyIf self.entry (I.Sealed.key key) result) }
+        ensures value { option_copied_mut result ≡ lookup (I.Sealed.key key) self.old.pairs }
     {
-        match self.position(index.as_key()) {
-            Some(position) => Some(self.value_mut(position)),
+        match self.position(key.as_key()) {
+            Some(index) => Some(self.value_mut(index)),
             None => None,
         }
     }
 
     /// Returns the entry of a key, or `None` if it does not exist.
-    pub fn get_key_value<I: ObjectIndex>(&self, index: I) -> Option<(&IString, &IValue)>
-        ensures { option_map deref_pair result ≡ pair_at_key (I.Sealed.key index) self.now.pairs }
+    pub fn get_key_value<I: ObjectIndex>(&self, key: I) -> Option<(&IString, &IValue)>
+        ensures { option_map deref_pair result ≡ pair_at_key (I.Sealed.key key) self.now.pairs }
     {
-        index.index_into(self)
+        key.index_into(self)
     }
 
     /// Like `get_key_value`, but with a mutable reference to the value.
-    pub fn get_key_value_mut<I: ObjectIndex>(&mut self, index: I) -> Option<(&IString, &mut IValue)>
-        ensures* writes_back { sem 𝓛 (LendsPairIf self.entry (I.Sealed.key index) result) }
-        ensures value { option_map deref_pair_mut result ≡ pair_at_key (I.Sealed.key index) self.old.pairs }
+    pub fn get_key_value_mut<I: ObjectIndex>(&mut self, key: I) -> Option<(&IString, &mut IValue)>
+        ensures* writes_back { sem 𝓛 (LendsPairIf self.entry (I.Sealed.key key) result) }
+        ensures value { option_map deref_pair_mut result ≡ pair_at_key (I.Sealed.key key) self.old.pairs }
     {
-        match self.position_of(index) {
-            Some(position) => Some(self.pair_mut(position)),
+        match self.position_of(key) {
+            Some(index) => Some(self.pair_mut(index)),
             None => None,
         }
     }
 
     /// Returns the index of a key. The object stays as it is.
-    fn position_of<I: ObjectIndex>(&mut self, index: I) -> Option<usize>
+    fn position_of<I: ObjectIndex>(&mut self, key: I) -> Option<usize>
         ensures same { self.new ≡ self.old }
-        ensures position { result ≡ at self.old.pairs (I.Sealed.key index) }
-        ensures within { IfSome result (λ position. position < length self.old.pairs) }
+        ensures position { result ≡ at self.old.pairs (I.Sealed.key key) }
+        ensures within { IfSome result (λ index. index < length self.old.pairs) }
     {
-        self.get_index_of(index)
+        self.get_index_of(key)
     }
 
     /// Returns the index of a key, or `None` if it does not exist.
     ///
     /// The key is hashed once.
-    pub fn get_index_of<I: ObjectIndex>(&self, index: I) -> Option<usize>
-        ensures position { result ≡ at self.now.pairs (I.Sealed.key index) }
-        ensures within { IfSome result (λ position. position < length self.now.pairs) }
+    pub fn get_index_of<I: ObjectIndex>(&self, key: I) -> Option<usize>
+        ensures position { result ≡ at self.now.pairs (I.Sealed.key key) }
+        ensures within { IfSome result (λ index. index < length self.now.pairs) }
     {
-        self.position(index.as_key())
+        self.position(key.as_key())
     }
 
     /// Returns `true` if the key exists.
-    pub fn contains_key<I: ObjectIndex>(&self, index: I) -> bool
-        ensures { IsTrue result ↔ IsSome (lookup (I.Sealed.key index) self.now.pairs) }
+    pub fn contains_key<I: ObjectIndex>(&self, key: I) -> bool
+        ensures { IsTrue result ↔ IsSome (lookup (I.Sealed.key key) self.now.pairs) }
     {
-        self.get(index).is_some()
+        self.get(key).is_some()
     }
 
     /// Removes the entry of a key, which the last entry replaces, and returns its value.
     ///
     /// Returns `None` if the key does not exist. No other entry moves, and it does not allocate. `shift_remove` keeps the order.
-    pub fn remove<I: ObjectIndex>(&mut self, index: I) -> Option<IValue>
-        ensures value { result ≡ lookup (I.Sealed.key index) self.old.pairs }
-        ensures pairs { self.new.pairs ≡ swap_out_key (I.Sealed.key index) self.old.pairs }
+    pub fn remove<I: ObjectIndex>(&mut self, key: I) -> Option<IValue>
+        ensures value { result ≡ lookup (I.Sealed.key key) self.old.pairs }
+        ensures pairs { self.new.pairs ≡ swap_out_key (I.Sealed.key key) self.old.pairs }
         ensures capacity { self.new.capacity ≡ self.old.capacity }
     {
-        let Some((key, value)) = index.remove(self) else {
+        let Some((key, value)) = key.remove(self) else {
             return None;
         };
         drop(key);
@@ -196,12 +196,12 @@ impl IObject {
     /// Removes and returns the entry of a key, which the last entry replaces.
     ///
     /// Returns `None` if the key does not exist.
-    pub fn remove_entry<I: ObjectIndex>(&mut self, index: I) -> Option<(IString, IValue)>
-        ensures pair { result ≡ pair_at_key (I.Sealed.key index) self.old.pairs }
-        ensures pairs { self.new.pairs ≡ swap_out_key (I.Sealed.key index) self.old.pairs }
+    pub fn remove_entry<I: ObjectIndex>(&mut self, key: I) -> Option<(IString, IValue)>
+        ensures pair { result ≡ pair_at_key (I.Sealed.key key) self.old.pairs }
+        ensures pairs { self.new.pairs ≡ swap_out_key (I.Sealed.key key) self.old.pairs }
         ensures capacity { self.new.capacity ≡ self.old.capacity }
     {
-        index.remove(self)
+        key.remove(self)
     }
 
     /// Removes the entry of a key, shifting all entries after it, and returns its value.
@@ -211,12 +211,12 @@ impl IObject {
     /// # Cost
     ///
     /// Linear in the capacity of the object, unless the entry is the last.
-    pub fn shift_remove<I: ObjectIndex>(&mut self, index: I) -> Option<IValue>
-        ensures value { result ≡ lookup (I.Sealed.key index) self.old.pairs }
-        ensures pairs { self.new.pairs ≡ shift_out_key (I.Sealed.key index) self.old.pairs }
+    pub fn shift_remove<I: ObjectIndex>(&mut self, key: I) -> Option<IValue>
+        ensures value { result ≡ lookup (I.Sealed.key key) self.old.pairs }
+        ensures pairs { self.new.pairs ≡ shift_out_key (I.Sealed.key key) self.old.pairs }
         ensures capacity { self.new.capacity ≡ self.old.capacity }
     {
-        let Some((key, value)) = index.shift_remove(self) else {
+        let Some((key, value)) = key.shift_remove(self) else {
             return None;
         };
         drop(key);
@@ -230,12 +230,12 @@ impl IObject {
     /// # Cost
     ///
     /// Linear in the capacity of the object, unless the entry is the last.
-    pub fn shift_remove_entry<I: ObjectIndex>(&mut self, index: I) -> Option<(IString, IValue)>
-        ensures pair { result ≡ pair_at_key (I.Sealed.key index) self.old.pairs }
-        ensures pairs { self.new.pairs ≡ shift_out_key (I.Sealed.key index) self.old.pairs }
+    pub fn shift_remove_entry<I: ObjectIndex>(&mut self, key: I) -> Option<(IString, IValue)>
+        ensures pair { result ≡ pair_at_key (I.Sealed.key key) self.old.pairs }
+        ensures pairs { self.new.pairs ≡ shift_out_key (I.Sealed.key key) self.old.pairs }
         ensures capacity { self.new.capacity ≡ self.old.capacity }
     {
-        index.shift_remove(self)
+        key.shift_remove(self)
     }
 }
 
@@ -258,15 +258,15 @@ impl IObject {
         let text = key.as_str();
         let hash = FixedHash::hash(text);
         match self.position_hashed(text, hash) {
-            Some(position) => {
+            Some(index) => {
                 drop(key);
-                Ok(self.value_mut(position))
+                Ok(self.value_mut(index))
             }
             None => match self.reserve(1) {
                 Ok(()) => {
-                    let position = self.len();
+                    let index = self.len();
                     self.push_hashed(key, IValue::default(), hash);
-                    Ok(self.value_mut(position))
+                    Ok(self.value_mut(index))
                 }
                 Err(why) => Err(RefusedPair {
                     key,
@@ -300,7 +300,7 @@ impl<I: ObjectIndex + Drop> IndexMut<I> for IObject {
         ensures* writes_back { sem 𝓛 (LendsAtKey self.entry (I.Sealed.key index) result) }
         ensures value { lookup (I.Sealed.key index) self.old.pairs ≡ Some result.now }
     {
-        let position = self.position(index.as_key()).unwrap();
-        self.value_mut(position)
+        let found = self.position(index.as_key()).unwrap();
+        self.value_mut(found)
     }
 }

@@ -9,7 +9,7 @@ use crate::value::IValue;
 use ijson_string::IString;
 
 impl IObject {
-    /// Keeps the entries for which `asks` returns `true`, with the values that `asks` writes.
+    /// Keeps the entries for which `keep` returns `true`, with the values that `keep` writes.
     ///
     /// Entries are visited from the first. The last entry replaces a removed one and is visited next, so the order stays only if nothing is
     /// removed. Does not allocate.
@@ -17,15 +17,15 @@ impl IObject {
     /// # Cost
     ///
     /// Linear in the entries if few keys collide, plus the calls of the closure. Each removal scans the collision clusters of two keys.
-    pub fn retain<F: FnMut(&IString, &mut IValue) -> bool>(&mut self, mut asks: F)
-        requires { MayAsk (CalledAtPair F.FnMut) (TakesPair F.FnMut) asks self.old.pairs }
-        ensures pairs { Retains (CalledAtPair F.FnMut) asks self.old.pairs self.new.pairs }
+    pub fn retain<F: FnMut(&IString, &mut IValue) -> bool>(&mut self, mut keep: F)
+        requires { MayAsk (CalledAtPair F.FnMut) (TakesPair F.FnMut) keep self.old.pairs }
+        ensures pairs { Retains (CalledAtPair F.FnMut) keep self.old.pairs self.new.pairs }
         ensures capacity { self.new.capacity ≡ self.old.capacity }
     {
         let mut index = 0;
         while index < self.len() {
             let (key, value) = self.pair_mut(index);
-            if asks(key, value) {
+            if keep(key, value) {
                 index += 1;
             } else {
                 drop(self.swap_out(index));

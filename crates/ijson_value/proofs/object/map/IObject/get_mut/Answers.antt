@@ -7,7 +7,7 @@ use Rattle.ijson_value.proofs.object.map.IObject.get_mut.Goals as goal
 
 pub returns-in-Some : goal.returns-in-Some
 returns-in-Some g c =
-    let now : Store WellFormed = c.args.self.now in let key = g.I.Sealed.key c.args.index in let i : ℕ = c.in-Some.position in
+    let now : Store WellFormed = c.args.self.now in let key = g.I.Sealed.key c.args.key in let i : ℕ = c.in-Some.index in
     let found : at now.pairs key ≡ Some i = ap (at now.pairs) (sym c.as_key.ensures) ∙ sym c.position.ensures.position ∙ c.in-Some.is in
     let got = c.value_mut.ensures.value in (
       ap (λ o. inl (c.value_mut.result.ghost_name, λ w. with_found now o w)) (sym found),
@@ -16,6 +16,6 @@ returns-in-Some g c =
 
 pub returns-in-None : goal.returns-in-None
 returns-in-None g c =
-    let now : Store WellFormed = c.args.self.now in let key = g.I.Sealed.key c.args.index in
+    let now : Store WellFormed = c.args.self.now in let key = g.I.Sealed.key c.args.key in
     let missing : at now.pairs key ≡ None = ap (at now.pairs) (sym c.as_key.ensures) ∙ sym c.position.ensures.position ∙ c.in-None.is in
     (refl, record { writes_back = tt; value = sym (lookup-absent now.pairs key missing) })

@@ -13,7 +13,7 @@ use Rattle.ijson_value.proofs.object.map.IObject.index_or_insert.Goals as goal
 
 pub returns-in-Some : goal.returns-in-Some
 returns-in-Some c =
-    let old : Store WellFormed = c.args.self.now in let key = c.args.key in let i : ℕ = c.in-Some.position in
+    let old : Store WellFormed = c.args.self.now in let key = c.args.key in let i : ℕ = c.in-Some.index in
     let found : at old.pairs key ≡ Some i = placed old.pairs c.as_str-text.ensures c.position_hashed.ensures.position c.in-Some.is in
     let got = c.value_mut.ensures.value in (
       (
@@ -36,11 +36,11 @@ returns-in-Ok c =
     let old : Store WellFormed = c.args.self.now in let key = c.args.key in let grown : Store WellFormed = c.reserve.new.self in
     let new : Store WellFormed = c.push_hashed.new.self in
     let missing : at old.pairs key ≡ None = placed old.pairs c.as_str-text.ensures c.position_hashed.ensures.position c.in-None.is in
-    let i : ℕ = c.len-position.result in
+    let i : ℕ = c.len-index.result in
     let null : WellFormed = c.default.result in
     let pushed : new.pairs ≡ old.pairs ++ (key, null) ∷ [] = c.push_hashed.ensures.pairs
     ∙ ap (λ ps. ps ++ (key, null) ∷ []) c.in-Ok.ensures.pairs in
-    let last : i ≡ length old.pairs = c.len-position.ensures ∙ ap length c.in-Ok.ensures.pairs in
+    let last : i ≡ length old.pairs = c.len-index.ensures ∙ ap length c.in-Ok.ensures.pairs in
     let wrote : (w : WellFormed) → with_value new.pairs i w ≡ put old.pairs key w = λ w.
     (λ j. with_value (pushed j) (last j) w) ∙ written_last old.pairs key null w ∙ sym (put-absent old.pairs key w missing) in
     let got = c.value_mut-in-Ok.ensures.value in (

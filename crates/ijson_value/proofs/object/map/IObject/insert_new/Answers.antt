@@ -38,5 +38,5 @@ returns-clause-pairs c =
     let last = c.len-last.ensures in
     c.move_index.ensures.pairs pair ((λ j. slice_get (pushed j) (last j)) ∙ got_last old c.args.key c.args.value)
     ∙ ap (λ ps. insert ps c.min.result pair) ((λ j. shift_out (pushed j) (last j)) ∙ last_out old pair)
-    ∙ ap (λ n. insert old n pair) (c.min.ensures ∙ ap (min c.args.position) last)
-    ∙ insert_within old pair c.args.position
+    ∙ ap (λ n. insert old n pair) (c.min.ensures ∙ ap (min c.args.index) last)
+    ∙ insert_within old pair c.args.index

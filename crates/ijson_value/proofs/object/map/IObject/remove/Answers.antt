@@ -2,7 +2,7 @@ use Rattle.ijson_value.proofs.pairs.PairLookups.{taken_value}
 use Rattle.ijson_value.proofs.object.map.IObject.remove.Goals as goal
 
 pub returns-in_default-clause-value : goal.returns-in_default-clause-value
-returns-in_default-clause-value g c = taken_value c.args.self.now.pairs (g.I.Sealed.key c.args.index) _ c.in_default.ensures.pair
+returns-in_default-clause-value g c = taken_value c.args.self.now.pairs (g.I.Sealed.key c.args.key) _ c.in_default.ensures.pair
 
 pub returns-clause-value : goal.returns-clause-value
-returns-clause-value g c = taken_value c.args.self.now.pairs (g.I.Sealed.key c.args.index) _ c.in-Some.ensures.pair
+returns-clause-value g c = taken_value c.args.self.now.pairs (g.I.Sealed.key c.args.key) _ c.in-Some.ensures.pair

@@ -9,7 +9,7 @@ use Rattle.ijson_value.proofs.object.map.IObject.replace_key.Goals as goal
 
 pub returns-in-None-clause-replaces : goal.returns-in-None-clause-replaces
 returns-in-None-clause-replaces c =
-    let old : Store WellFormed = c.args.self.now in let from = c.args.old.now in let i : ℕ = c.in-Some.position in
+    let old : Store WellFormed = c.args.self.now in let from = c.args.old.now in let i : ℕ = c.in-Some.index in
     let found : at old.pairs from ≡ Some i = sym c.position.ensures.position ∙ c.in-Some.is in (
       c.replace_key_at.ensures.key ∙ key_there old.pairs from i found,
       is_there (at old.pairs from) i found,
@@ -18,11 +18,11 @@ returns-in-None-clause-replaces c =
 
 pub returns-in-Some-position-clause-replaces : goal.returns-in-Some-position-clause-replaces
 returns-in-Some-position-clause-replaces c =
-    let old : Store WellFormed = c.args.self.now in let from = c.args.old.now in let to = c.args.new in let i : ℕ = c.in-Some.position in
+    let old : Store WellFormed = c.args.self.now in let from = c.args.old.now in let to = c.args.new in let i : ℕ = c.in-Some.index in
     let found : at old.pairs from ≡ Some i = sym c.position.ensures.position ∙ c.in-Some.is in
     let there : at old.pairs to ≡ Some c.in-Some-position.found =
     placed old.pairs c.as_str.ensures c.position-2.ensures.position c.in-Some-position.is in
-    let same : i ≡ c.in-Some-position.found = omega (arith, c.if-found-position.true) in
+    let same : i ≡ c.in-Some-position.found = omega (arith, c.if-found-index.true) in
     let is : get_or (keys_of old.pairs) i [] ≡ to =
     ap (λ n. get_or (keys_of old.pairs) n []) same ∙ key_there old.pairs to c.in-Some-position.found there in (
       sym is ∙ key_there old.pairs from i found,

@@ -8,10 +8,10 @@ use Rattle.ijson_value.proofs.object.map.IObject.retain.Given as goal
 -- the remaining calls may be made, and their effect is that of all calls
 abbrev pub invariant-loop-index : goal.invariant-loop-index
 invariant-loop-index g l =
-    MayAskFrom (CalledAtPair g.F.FnMut) (TakesPair g.F.FnMut) l.asks l.index l.self.pairs × (l.self.capacity ≡ l.fn.self.capacity)
+    MayAskFrom (CalledAtPair g.F.FnMut) (TakesPair g.F.FnMut) l.keep l.index l.self.pairs × (l.self.capacity ≡ l.fn.self.capacity)
     × (l.index ≤ length l.self.pairs)
-    × ((qs : List (List ℕ × WellFormed)) → RetainsFrom (CalledAtPair g.F.FnMut) (length l.self.pairs - l.index) l.asks l.index l.self.pairs
-    qs → RetainsFrom (CalledAtPair g.F.FnMut) (length l.fn.self.pairs) l.fn.asks 0 l.fn.self.pairs qs)
+    × ((qs : List (List ℕ × WellFormed)) → RetainsFrom (CalledAtPair g.F.FnMut) (length l.self.pairs - l.index) l.keep l.index l.self.pairs
+    qs → RetainsFrom (CalledAtPair g.F.FnMut) (length l.fn.self.pairs) l.fn.keep 0 l.fn.self.pairs qs)
 
 abbrev pub decreases-loop-index : goal.decreases-loop-index
 decreases-loop-index g l = length l.self.pairs - l.index
