@@ -37,7 +37,7 @@ pub fn grown_capacity(
 }
 
 /// Returns `capacity`, or `TooLarge` if it exceeds the limit.
-pub fn limited(capacity: usize) -> Result<usize, ReserveError>
+pub fn check_capacity(capacity: usize) -> Result<usize, ReserveError>
     ensures { MatchResult result
         (λ n. (n ≡ capacity) × (capacity ≤ capacity_limit))
         (λ why. (why ≡ ReserveError.TooLarge) × (capacity_limit < capacity)) }

@@ -8,9 +8,9 @@ ghost use Rattle.ijson_table.specs.laws.Store.{IsDistinct-prop};
 ghost use Rattle.ijson_table.specs.Growth.{capacity_limit};
 ghost use Rattle.ijson_table.specs.Inserts.{Inserts};
 
-use crate::growth::{grown_capacity, limited};
+use crate::growth::{check_capacity, grown_capacity};
 use crate::store::{PairStore, RefusedPair, ReserveError, insert};
-use crate::vec::set_room;
+use crate::vec::set_capacity;
 use ijson_string::IString;
 use std::alloc::Global;
 use std::fmt;
@@ -67,7 +67,7 @@ impl<V> LinearPairs<V> {
         ensures too_large { (result ≡ Err ReserveError.TooLarge) ↔ (capacity_limit < capacity) }
         ensures none { capacity ≡ 0 → IsOk result }
     {
-        let capacity = limited(capacity)?;
+        let capacity = check_capacity(capacity)?;
         Ok(LinearPairs {
             pairs: Vec::with_capacity(alloc, capacity)?,
         })
@@ -147,7 +147,7 @@ impl<V: Drop> PairStore<V> for LinearPairs<V> {
 
     fn reserve(&mut self, additional: usize) -> Result<(), ReserveError> {
         match grown_capacity(self.len(), self.capacity(), additional)? {
-            Some(capacity) => Ok(set_room(*self.pairs.allocator(), &mut self.pairs, capacity)?),
+            Some(capacity) => Ok(set_capacity(*self.pairs.allocator(), &mut self.pairs, capacity)?),
             None => Ok(()),
         }
     }
@@ -157,7 +157,7 @@ impl<V: Drop> PairStore<V> for LinearPairs<V> {
         if self.capacity() == len {
             return Ok(());
         }
-        Ok(set_room(*self.pairs.allocator(), &mut self.pairs, len)?)
+        Ok(set_capacity(*self.pairs.allocator(), &mut self.pairs, len)?)
     }
 
     fn position(&self, key: &str) -> Option<usize> {

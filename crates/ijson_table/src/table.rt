@@ -20,16 +20,16 @@ ghost use Rattle.ijson_table.specs.private.Room.{HasRoom, IsResized};
 
 mod from_list;
 
-use crate::growth::{grown_capacity, limited, slots_for};
+use crate::growth::{check_capacity, grown_capacity, slots_for};
 use crate::hash::KeyHash;
-use crate::index::add::{STEPS_A_PAIR, add_new_keys};
+use crate::index::add::{STEPS_PER_PAIR, add_new_keys};
 use crate::index::fill::fill_sorted;
 use crate::index::places::{Places, locate};
 use crate::index::probe::{Probed, has_key};
 use crate::index::slots::Slots;
 use crate::slot::{Modulus, Seen};
 use crate::store::{PairStore, RefusedPair, ReserveError};
-use crate::vec::{set_room, tighten};
+use crate::vec::{set_capacity, shrink_to_len};
 use ijson_number::Looks;
 use ijson_string::IString;
 use std::alloc::{AllocError, Global};
@@ -86,7 +86,7 @@ impl<V: Drop, H: KeyHash> Table<V, H> {
         ensures too_large { (result ≡ Err ReserveError.TooLarge) ↔ (capacity_limit < capacity) }
         ensures none { capacity ≡ 0 → IsOk result }
     {
-        let capacity = limited(capacity)?;
+        let capacity = check_capacity(capacity)?;
         let pairs = Vec::with_capacity(alloc, capacity)?;
         let slots = Slots::with_count(alloc, slots_for(capacity))?;
         Ok(Table {
@@ -121,7 +121,7 @@ impl<V: Drop, H: KeyHash> Table<V, H> {
     {
         let capacity = self.pairs.len();
         let slots = self.slots_with_capacity(alloc, capacity, &mut Looks::new())?;
-        tighten(alloc, &mut pairs)?;
+        shrink_to_len(alloc, &mut pairs)?;
         Ok(Table {
             pairs,
             slots,
@@ -198,7 +198,7 @@ impl<V: Drop, H: KeyHash> Table<V, H> {
         ensures bounded { IsBuildBounded capacity (looks.new - looks.old) }
     {
         let slots = self.slots_with_capacity(self.alloc, capacity, looks)?;
-        if let Err(refused) = set_room(self.alloc, &mut self.pairs, capacity) {
+        if let Err(refused) = set_capacity(self.alloc, &mut self.pairs, capacity) {
             drop(slots);
             return Err(refused);
         }
@@ -442,7 +442,7 @@ impl<V, H: KeyHash> Table<V, H> {
         let placed = add_new_keys::<V, H>(
             &self.pairs,
             &mut slots,
-            STEPS_A_PAIR * capacity,
+            STEPS_PER_PAIR * capacity,
             &mut steps,
         );
         looks.add(steps as u128);

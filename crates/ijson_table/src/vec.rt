@@ -9,7 +9,7 @@ use std::mem;
 /// Moves the items to a list with no spare capacity.
 ///
 /// If the allocation fails, nothing changes.
-pub fn fit<T: Drop>(alloc: Global, list: &mut Vec<T>) -> Result<(), AllocError>
+pub fn reallocate_exact<T: Drop>(alloc: Global, list: &mut Vec<T>) -> Result<(), AllocError>
     ensures items { list.new.items ≡ list.old.items }
     ensures room { OnOk result (vec_capacity list.new ≡ length list.old.items) }
     ensures refused { OnErr result
@@ -25,7 +25,11 @@ pub fn fit<T: Drop>(alloc: Global, list: &mut Vec<T>) -> Result<(), AllocError>
 /// Sets the capacity to `room`, which is the length or at least the old capacity.
 ///
 /// It grows in place if the allocator can. If the allocation fails, nothing changes.
-pub fn set_room<T: Drop>(alloc: Global, list: &mut Vec<T>, room: usize) -> Result<(), AllocError>
+pub fn set_capacity<T: Drop>(
+    alloc: Global,
+    list: &mut Vec<T>,
+    room: usize,
+) -> Result<(), AllocError>
     requires within { length list.old.items ≤ room }
     requires grows { length list.old.items < room → vec_capacity list.old ≤ room }
     ensures { IsResized list.old.items (vec_capacity list.old) room result list.new.items (vec_capacity list.new) }
@@ -34,13 +38,13 @@ pub fn set_room<T: Drop>(alloc: Global, list: &mut Vec<T>, room: usize) -> Resul
     if len < room {
         return list.reserve_exact(room - len);
     }
-    fit(alloc, list)
+    reallocate_exact(alloc, list)
 }
 
 /// Frees the spare capacity.
 ///
 /// It shrinks in place if the allocator can; otherwise it moves the items, which may fail.
-pub fn tighten<T: Drop>(alloc: Global, list: &mut Vec<T>) -> Result<(), AllocError>
+pub fn shrink_to_len<T: Drop>(alloc: Global, list: &mut Vec<T>) -> Result<(), AllocError>
     ensures items { list.new.items ≡ list.old.items }
     ensures room { OnOk result (vec_capacity list.new ≡ length list.old.items) }
     ensures refused { OnErr result (0 < length list.old.items) }
@@ -49,7 +53,7 @@ pub fn tighten<T: Drop>(alloc: Global, list: &mut Vec<T>) -> Result<(), AllocErr
     if list.capacity() == list.len() {
         return Ok(());
     }
-    fit(alloc, list)
+    reallocate_exact(alloc, list)
 }
 
 /// Removes the items from index `start` up to `end`.

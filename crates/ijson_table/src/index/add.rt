@@ -17,7 +17,7 @@ use ijson_string::IString;
 /// The average number of steps per pair after which the table is built by sorting.
 ///
 /// Keys that nobody chose take about three in a small object, and seventeen in one of 30,000 numbered keys.
-pub const STEPS_A_PAIR: usize = 32;
+pub const STEPS_PER_PAIR: usize = 32;
 
 /// Inserts the indices of pairs into empty slots, up to a duplicate key or a bound on the steps.
 ///

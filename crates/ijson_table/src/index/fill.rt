@@ -19,7 +19,7 @@ use ijson_string::IString;
 use std::alloc::{AllocError, Global};
 
 /// Returns the number of hashed indices that pass the end of the slots if they are written from the first slot on.
-fn past_end(sorted: &[HashedIndex], modulus: Modulus) -> usize
+fn wrapped_count(sorted: &[HashedIndex], modulus: Modulus) -> usize
     requires few { modulus.count ≤ 2 ^ 60 }
     requires limited { length sorted.now ≤ 2 ^ 60 }
     ensures { result ≡ passing modulus.count sorted.now }
@@ -50,7 +50,7 @@ fn fill(slots: &mut Slots, sorted: &[HashedIndex], modulus: Modulus)
     ensures count { length slots.new ≡ length slots.old }
 {
     let count = modulus.count;
-    let mut next = past_end(sorted, modulus);
+    let mut next = wrapped_count(sorted, modulus);
     for index in 0..sorted.len() {
         let entry = sorted[index];
         let spot = next.max(modulus.home_of_hash(entry.hash));

@@ -48,7 +48,7 @@ impl<'a> ProbeTarget for HashProbe<'a> {
 }
 
 /// Returns the slot at which the probe for a missing key with this home slot ends.
-fn vacancy(slots: &Slots, modulus: Modulus, home: usize) -> usize
+fn vacant_slot(slots: &Slots, modulus: Modulus, home: usize) -> usize
     requires counted { modulus.count ≡ length slots.now }
     requires home { home < length slots.now }
     requires empty { HasEmpty (positions slots.now) }
@@ -87,7 +87,11 @@ fn slot_of(slots: &Slots, modulus: Modulus, position: usize, hash: u64) -> usize
 /// Removes an index from the slots of a table of these pairs, and returns the modulus of the slots.
 ///
 /// Residents after its slot are shifted back by one slot, up to an empty slot or a resident at its home slot.
-fn take_out<V, H: KeyHash>(slots: &mut Slots, pairs: &[(IString, V)], position: usize) -> Modulus
+fn remove_index<V, H: KeyHash>(
+    slots: &mut Slots,
+    pairs: &[(IString, V)],
+    position: usize,
+) -> Modulus
     requires table { IsTableOf (map H.hash_of (keys_of pairs.now)) slots.old }
     requires within { position < length pairs.now }
     ensures left { IsTableBut (map H.hash_of (keys_of pairs.now)) position slots.new }
@@ -124,7 +128,7 @@ impl Slots {
         ensures table { IsTableOf (swapped_out (map H.hash_of (keys_of pairs.now)) position 0) self.new }
         ensures count { length self.new ≡ length self.old }
     {
-        let modulus = take_out::<V, H>(self, pairs, position);
+        let modulus = remove_index::<V, H>(self, pairs, position);
         let last = pairs.len() - 1;
         if position == last {
             return;
@@ -142,9 +146,9 @@ impl Slots {
         ensures table { IsTableOf (set (map H.hash_of (keys_of pairs.now)) position hash) self.new }
         ensures count { length self.new ≡ length self.old }
     {
-        let modulus = take_out::<V, H>(self, pairs, position);
+        let modulus = remove_index::<V, H>(self, pairs, position);
         let (home, kept) = modulus.split(hash);
-        let slot = vacancy(self, modulus, home);
+        let slot = vacant_slot(self, modulus, home);
         self.shift_forward(slot, position, kept);
     }
 
@@ -156,7 +160,7 @@ impl Slots {
         ensures table { IsTableOf (remove (map H.hash_of (keys_of pairs.now)) position) self.new }
         ensures count { length self.new ≡ length self.old }
     {
-        take_out::<V, H>(self, pairs, position);
+        remove_index::<V, H>(self, pairs, position);
         self.renumber(position, pairs.len() - 1);
     }
 }

@@ -10,15 +10,15 @@ ghost use Rattle.ijson_table.specs.private.FirstPlaced.{FirstPlaced};
 ghost use Rattle.ijson_table.specs.private.Insertion.{IsTableOf};
 
 use super::Table;
-use crate::growth::{limited, slots_for};
+use crate::growth::{check_capacity, slots_for};
 use crate::hash::KeyHash;
-use crate::index::add::{STEPS_A_PAIR, add_new_key, add_new_keys};
+use crate::index::add::{STEPS_PER_PAIR, add_new_key, add_new_keys};
 use crate::index::fill::fill_sorted;
 use crate::index::slots::Slots;
 use crate::slot::Modulus;
 use crate::sorting::build::put_sorted;
 use crate::store::ReserveError;
-use crate::vec::{remove_range, tighten};
+use crate::vec::{remove_range, shrink_to_len};
 use ijson_number::Looks;
 use ijson_string::IString;
 use std::alloc::{AllocError, Global};
@@ -68,10 +68,10 @@ impl<V: Drop, H: KeyHash> Table<V, H> {
         ensures grows { looks.old ≤ looks.new }
         ensures bounded { IsBuildBounded (length pairs.items) (looks.new - looks.old) }
     {
-        let capacity = limited(pairs.len())?;
-        tighten(alloc, &mut pairs)?;
+        let capacity = check_capacity(pairs.len())?;
+        shrink_to_len(alloc, &mut pairs)?;
         let mut slots = Slots::with_count(alloc, slots_for(capacity))?;
-        let most = STEPS_A_PAIR * capacity;
+        let most = STEPS_PER_PAIR * capacity;
         let mut steps = 0;
         let (kept, read) = put_in_place::<V, H>(&mut pairs, &mut slots, most, &mut steps);
         looks.add(steps as u128);

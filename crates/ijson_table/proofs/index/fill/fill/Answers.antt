@@ -12,7 +12,7 @@ use Rattle.ijson_table.proofs.index.fill.fill.Goals.{Start, Joined-spot-count, t
 
 pub loop-index-init : goal.loop-index-init
 loop-index-init c = record {
-  next = c.past_end-next.ensures;
+  next = c.wrapped_count-next.ensures;
   filled = filled_none c.args.modulus.count (place c.args.modulus.count c.args.sorted.now) c.args.sorted.now c.args.slots.now
       (sym c.requires.counted) (each_empty c.args.slots.now c.requires.empty);
 }

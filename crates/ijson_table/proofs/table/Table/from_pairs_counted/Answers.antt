@@ -23,7 +23,7 @@ all_put g c remaining =
     let kept = take c.put_in_place-kept.result.0 c.put_in_place-kept.new.pairs in
     ap (put_each []) remaining ∙ (put_each-behind kept (drop c.put_in_place-kept.result.1 c.put_in_place-kept.new.pairs)
     c.put_in_place-kept.ensures.placed.distinct ∙ (c.put_in_place-kept.ensures.pairs
-    ∙ ap (put_each []) (c.deref_mut.ensures.value ∙ c.tighten.ensures.items)))
+    ∙ ap (put_each []) (c.deref_mut.ensures.value ∙ c.shrink_to_len.ensures.items)))
 
 -- if all were read, these are the first of them
 all_read : (g : Over) (c : Else-read-capacity g) → c.in_ok-capacity.capacity ≡ length c.args.pairs.items → c.remove_range.new.list.items
@@ -35,14 +35,14 @@ all_read g c exactly is =
       arith,
       c.put_in_place-kept.auto.pairs,
       ap length c.deref_mut.ensures.value,
-      ap length c.tighten.ensures.items,
+      ap length c.shrink_to_len.ensures.items,
       exactly,
       c.if-read-capacity.false,
     ))) ∙ append-nil kept)
 
 pub returns-then-read-capacity-clause-pairs : goal.returns-then-read-capacity-clause-pairs
 returns-then-read-capacity-clause-pairs g c =
-    let same = with_items_is c.tighten.new.list c.put_in_place-kept.new.pairs
+    let same = with_items_is c.shrink_to_len.new.list c.put_in_place-kept.new.pairs
     (omega (arith, c.put_in_place-kept.auto.pairs, c.deref_mut.ensures.len)) in
     c.in_ok-from_pairs_sorted.ensures.pairs
     ∙ all_put g (goal.at.returns-then-read-capacity-clause-pairs g c).After-remove_range (cc c.remove_range.ensures.items)

@@ -16,5 +16,5 @@ returns-clause-table g c =
     let end : last + 1 ≡ length was = omega (arith, c.requires.within, count) in
     let size = length-relocated was at last (get_or was at 0) within (omega (arith, end)) in
     rw (c.renumber.ensures)
-    (subst (λ hs. IsTableOf hs (map (renumbered at last) c.take_out.new.slots)) (last_removed was at last (get_or was at 0) within (omega (arith, end)) end)
-    (last_out _ last _ (moved_but was at last within (omega (arith, end)) _ c.take_out.ensures.left) (omega (arith, end, size))))
+    (subst (λ hs. IsTableOf hs (map (renumbered at last) c.remove_index.new.slots)) (last_removed was at last (get_or was at 0) within (omega (arith, end)) end)
+    (last_out _ last _ (moved_but was at last within (omega (arith, end)) _ c.remove_index.ensures.left) (omega (arith, end, size))))

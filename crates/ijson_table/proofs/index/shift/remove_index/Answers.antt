@@ -12,11 +12,11 @@ use Rattle.ijson_table.proofs.shifting.BackwardShift.{gap_closed, gap_within, mo
 use Rattle.ijson_table.proofs.slots.HashesInSlots.{positions-length, positions-put, positions-set, position-at, nothing_has_hash, hashes-at}
 use Rattle.ijson_table.proofs.slots.HashesInSlots.{hashes-written, displacement-read}
 use Rattle.ijson_table.proofs.slots.Residents.{some_position, times-set}
-use Rattle.ijson_table.proofs.index.shift.take_out.Given.{Over}
-use Rattle.ijson_table.proofs.index.shift.take_out.Invariants.{HasGapAt}
-use Rattle.ijson_table.proofs.index.shift.take_out.Goals.{After-is_empty, After-len, After-set-in-loop-behind-2, then-is_empty-via-then-is_empty}
-use Rattle.ijson_table.proofs.index.shift.take_out.Goals.{then-is_empty-via-else-is_empty+then-distance_between-eq0}
-use Rattle.ijson_table.proofs.index.shift.take_out.Goals as goal
+use Rattle.ijson_table.proofs.index.shift.remove_index.Given.{Over}
+use Rattle.ijson_table.proofs.index.shift.remove_index.Invariants.{HasGapAt}
+use Rattle.ijson_table.proofs.index.shift.remove_index.Goals.{After-is_empty, After-len, After-set-in-loop-behind-2, then-is_empty-via-then-is_empty}
+use Rattle.ijson_table.proofs.index.shift.remove_index.Goals.{then-is_empty-via-else-is_empty+then-distance_between-eq0}
+use Rattle.ijson_table.proofs.index.shift.remove_index.Goals as goal
 
 -- the slot after the gap, and its contents
 module _ (hashes : List ℕ) (gone count : ℕ) (slots : List Slot) (gap : ℕ) (was : HasGapAt hashes gone count slots gap) (next : ℕ)

@@ -1,6 +1,6 @@
 use Rattle.std.proofs.Common.{◌≡◌, ◌+◌, ◌≤◌}
 use Rattle.ijson_table.specs.private.Homes.{home_of_entry, next_after}
-use Rattle.ijson_table.proofs.index.fill.past_end.Given as goal
+use Rattle.ijson_table.proofs.index.fill.wrapped_count.Given as goal
 
 abbrev pub invariant-loop-index : goal.invariant-loop-index
 invariant-loop-index l = record {

@@ -5,7 +5,7 @@ use Rattle.ijson_table.specs.Store.{keys_of}
 use Rattle.ijson_table.specs.private.Holds.{one_if}
 use Rattle.ijson_table.specs.private.SlotHashes.{positions, HaveHashes}
 use Rattle.ijson_table.proofs.shifting.BackwardShift.{all_displacements, HasGap}
-use Rattle.ijson_table.proofs.index.shift.take_out.Given as goal
+use Rattle.ijson_table.proofs.index.shift.remove_index.Given as goal
 
 -- The slots have a gap, and each index but one.
 pub record HasGapAt (hashes : List ℕ) (gone count : ℕ) (slots : List Slot) (gap : ℕ) : Type 0 where

@@ -7,7 +7,7 @@ use Rattle.ijson_table.specs.private.SlotHashes.{displacement_in, positions}
 use Rattle.ijson_table.specs.private.Probe.{Ends}
 use Rattle.ijson_table.proofs.shifting.Insertion.{not_round}
 use Rattle.ijson_table.proofs.slots.HashesInSlots.{positions-length, displacement_in-none}
-use Rattle.ijson_table.proofs.index.shift.vacancy.Goals as goal
+use Rattle.ijson_table.proofs.index.shift.vacant_slot.Goals as goal
 
 -- the target is in no slot, and a slot is empty
 no_other : (slots : List Slot) (home looks : ℕ) → home < length slots → HasEmpty (positions slots)

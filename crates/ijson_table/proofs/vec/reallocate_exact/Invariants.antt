@@ -1,5 +1,5 @@
 use Rattle.std.proofs.Common.{◌≡◌, length, vec_capacity}
-use Rattle.ijson_table.proofs.vec.fit.Given as goal
+use Rattle.ijson_table.proofs.vec.reallocate_exact.Given as goal
 
 -- the items so far are in a list with capacity for all of them
 abbrev pub invariant-loop-item : goal.invariant-loop-item
