@@ -1,4 +1,4 @@
-use Rattle.std.proofs.Common.{◌≡◌, ◌<◌, ℕ, List, length, get_or, map, arith, ap, sym, subst, ◌∙◌, if◌then◌else◌}
+use Rattle.std.proofs.Common.{◌≡◌, ◌<◌, ℕ, List, length, get_or, map, arith, ap, sym, subst, ◌∙◌}
 use Rattle.std.specs.Prelude.{vec_capacity}
 use Rattle.std.proofs.lemmas.List.{length-map}
 use Rattle.std.proofs.lemmas.Option.{get_or_from_slice_get}
@@ -36,9 +36,8 @@ room g c = omega (
 
 now : (g : _) (c : After-insert g) → c.insert.new.self.items ≡ relocated (old g c) c.args.from c.args.to c.remove-pair.result
 now g c =
-    c.insert.ensures.items
-    ∙ ap (λ b. if b then insert c.remove-pair.new.self.items c.args.to c.remove-pair.result else c.remove-pair.new.self.items) (c.insert.ensures.succeeds (omega (arith, room g c, c.remove-pair.new.self.ok.0)))
-    ∙ ap (λ ps. insert ps c.args.to c.remove-pair.result) c.remove-pair.ensures.items
+    let done = c.insert.ensures.succeeds (omega (arith, room g c, c.remove-pair.new.self.ok.0)) in
+    simp (c.insert.ensures.items, done, c.remove-pair.ensures.items)
 
 pub invariant_of-self-inside : goal.invariant_of-self-inside
 invariant_of-self-inside g c =
