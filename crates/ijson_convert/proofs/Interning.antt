@@ -6,21 +6,21 @@ use Rattle.ijson_value.specs.Tree.{Tree, items_of, members_of}
 use Rattle.ijson_convert.specs.Interned.{all_interned, SomeInterned}
 use Rattle.ijson_convert.specs.TextsOf.{texts_of, items_texts, members_texts}
 
--- first these texts, and then those
+-- interning `xs ++ ys` is interning `xs` and then `ys`
 pub both_interned : (xs ys : List (List ℕ)) (cache : Texts)
     → all_interned (xs ++ ys) cache ≡ all_interned ys (all_interned xs cache)
 both_interned [] ys cache = refl
 both_interned (x ∷ xs) ys cache = both_interned xs ys (interned x cache)
 
--- nothing yet
+-- interning no string satisfies `SomeInterned`
 pub none_interned : (texts : List (List ℕ)) (cache : Texts) → SomeInterned texts cache cache
 none_interned texts cache = record { done = []; left = texts; parts = refl; cache = refl }
 
--- all of them
+-- interning all of the strings satisfies `SomeInterned`
 pub wholly_interned : (texts : List (List ℕ)) (old new : Texts) → new ≡ all_interned texts old → SomeInterned texts old new
 wholly_interned texts old new e = record { done = texts; left = []; parts = sym (append-nil texts); cache = e }
 
--- a beginning of the first strings is one of all
+-- interning some first strings of `xs` is interning some first strings of `xs ++ ys`
 pub some_before : (xs ys : List (List ℕ)) (old new : Texts) → SomeInterned xs old new → SomeInterned (xs ++ ys) old new
 some_before xs ys old new s = record {
   done = s.done;
@@ -29,7 +29,7 @@ some_before xs ys old new s = record {
   cache = s.cache;
 }
 
--- a beginning of the strings after the first is one of all
+-- interning `xs` and some first strings of `ys` is interning some first strings of `xs ++ ys`
 pub some_behind : (xs ys : List (List ℕ)) (old new : Texts) → SomeInterned ys (all_interned xs old) new
     → SomeInterned (xs ++ ys) old new
 some_behind xs ys old new s = record {
@@ -46,7 +46,7 @@ pub record Strings (X : Type 0) : Type 0 where
   pub none : all [] ≡ []
   pub first : (x : X) (xs : List X) → all (x ∷ xs) ≡ each x ++ all xs
 
--- of elements with these trees
+-- the strings of elements with the trees that `tree` gives
 abbrev pub element_strings : {X : Type 0} → (X → Tree) → Strings X
 element_strings tree = record {
   each = λ x. texts_of (tree x);
@@ -55,7 +55,7 @@ element_strings tree = record {
   first = λ _ _. refl;
 }
 
--- the strings of entries with these keys and trees
+-- the strings of entries with the keys and trees that `pair` gives
 abbrev pub entry_strings : {X : Type 0} → (X → List ℕ × Tree) → Strings X
 entry_strings pair = record {
   each = λ x. (pair x).0 ∷ texts_of (pair x).1;
@@ -72,14 +72,14 @@ module _ {X : Type 0} (s : Strings X) where
       ∙ sym (append_assoc (s.each x) (s.all xs) (s.all ys)) ∙ ap (λ l. l ++ s.all ys) (sym (s.first x xs))
 
   module _ (done : List X) (x : X) (old middle new : Texts) (so_far : middle ≡ all_interned (s.all done) old) where
-    -- the strings of one more part are interned
+    -- after interning the strings of `x`, the strings of `done ++ x ∷ []` are interned
     pub one_interned : new ≡ all_interned (s.each x) middle → new ≡ all_interned (s.all (done ++ x ∷ [])) old
     one_interned n =
         n ∙ ap (all_interned (s.each x)) so_far ∙ sym (both_interned (s.all done) (s.each x) old)
         ∙ ap (λ l. all_interned (s.all done ++ l) old) (sym (s.first x [] ∙ ap (λ l. s.each x ++ l) s.none ∙ append-nil (s.each x)))
         ∙ ap (λ l. all_interned l old) (sym (strings_joined done (x ∷ [])))
 
-    -- a beginning of them is one of all
+    -- after the strings of `done`, interning some first strings of `x` is interning some first strings of `xs`
     pub one_begun : (left xs : List X) → done ++ x ∷ left ≡ xs → SomeInterned (s.each x) middle new → SomeInterned (s.all xs) old new
     one_begun left xs parts some =
         subst (λ l. SomeInterned l old new) (sym (strings_joined done (x ∷ left) ∙ ap (λ l. s.all done ++ l) (s.first x left))

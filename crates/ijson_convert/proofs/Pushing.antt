@@ -20,7 +20,7 @@ joined : (ts us : List Tree) → texts (ts ++ us) ≡ texts ts ++ texts us
 joined = strings_joined (record { each = texts_of; all = texts; none = refl; first = λ _ _. refl })
 
 module _ {X : Type 0} {ts : List Tree} {old : List WellFormed} {before : Texts} where
-  -- if the first step fails, both do
+  -- if pushing `ts` fails, pushing `ts ++ us` fails with the same error
   pub first_fails : (us : List Tree) {new : List WellFormed} {after : Texts} {e : ConvertError}
       → Pushes {X = X} ts old new before after (Err e) → Pushes {X = X} (ts ++ us) old new before after (Err e)
   first_fails us {after = after} p = record {
@@ -34,7 +34,7 @@ module _ {X : Type 0} {ts : List Tree} {old : List WellFormed} {before : Texts} 
 
   module _ {us : List Tree} {mid new : List WellFormed} {between after : Texts} {x : X}
       (first : Pushes ts old mid before between (Ok x)) where
-    -- else they end as the second does
+    -- if pushing `ts` succeeds, pushing `ts ++ us` ends as pushing `us` does
     pub then_pushed : {result : Result X ConvertError} → Pushes us mid new between after result
         → Pushes (ts ++ us) old new before after result
     then_pushed {result = Ok y} p = record {
@@ -55,7 +55,7 @@ module _ {X : Type 0} {ts : List Tree} {old : List WellFormed} {before : Texts} 
       );
     }
 
--- a list around one of its elements
+-- a list is its first `i` elements, element `i` and the rest
 pub split_at : {X : Type 0} (xs : List X) (i : ℕ) (x : X) → i < length xs → x ≡ get_or xs i x
     → take i xs ++ x ∷ drop (suc i) xs ≡ xs
 split_at xs i x h is =
@@ -64,7 +64,7 @@ split_at xs i x h is =
 
 module _ {X : Type 0} (tree : X → Tree) (xs : List X) (i : ℕ) (x : X) (within : i < length xs) (is : x ≡ get_or xs i x)
     (old middle new : Texts) (so_far : middle ≡ all_interned (items_texts (items_of (map tree (take i xs)))) old) where
-  -- the next element of a list is appended
+  -- after appending element `i`, the first `i + 1` elements are appended
   pub item_pushed : (vs vs' : List WellFormed) (v : WellFormed) → map tree_of vs ≡ map tree (take i xs) → vs' ≡ vs ++ v ∷ []
       → v.tree ≡ tree x → new ≡ all_interned (texts_of (tree x)) middle
       → (map tree_of vs' ≡ map tree (take (i + 1) xs))

@@ -122,9 +122,9 @@ fn from_items<S: BuildHasher>(
     Ok(array)
 }
 
-/// Converts a map of `serde_json` to an object, in its order, which is that of the keys.
+/// Converts a `serde_json` map to an object, in the order of the map, which is sorted by key.
 ///
-/// The entries are collected in a list that is allocated first, and the object is built from it as by `from_pairs`. Keys and strings are
+/// Collects the entries in a list, which is allocated first, and builds the object from it like `from_pairs`. Keys and strings are
 /// interned in `cache`, in order.
 ///
 /// # Errors
@@ -133,7 +133,7 @@ fn from_items<S: BuildHasher>(
 ///
 /// # Cost
 ///
-/// That of `from_serde`.
+/// Like `from_serde`.
 #[cycle(from)]
 pub fn from_serde_map<S: BuildHasher>(
     alloc: Global,

@@ -29,7 +29,8 @@ pub trait ToIValue {
     ///
     /// # Errors
     ///
-    /// Returns `Memory`; the first strings and keys may have been interned.
+    /// Returns `Memory` if an allocation fails or the capacity of an object would exceed 2^56. The first strings and keys may have been
+    /// interned.
     fn to_ivalue<S: BuildHasher>(
         &self,
         alloc: Global,
@@ -51,7 +52,8 @@ pub trait ToIValue {
 ///
 /// # Errors
 ///
-/// Returns `Memory`; the first strings and keys may have been interned.
+/// Returns `Memory` if an allocation fails or the capacity of an object would exceed 2^56. The first strings and keys may have been
+/// interned.
 ///
 /// # Cost
 ///

@@ -30,7 +30,7 @@ written_last [] h = refl
 written_last (b ∷ token) h =
     in_token b token (ne_eqb b 47 (h 0 (omega arith))) ∙ ap (in_first b) (written_last token (tail_lacks 47 b token h))
 
--- there is a first token
+-- the list has a first token
 abbrev HasFirst : List (List ℕ) → Type 0
 HasFirst ws = (more : List (List ℕ)) × (ws ≡ get_or ws 0 [] ∷ more)
 
@@ -51,7 +51,7 @@ pub first_named : (text token : List ℕ) (ws : List (List ℕ)) → written_tok
     → (token ≡ first_of text) × (written_tokens text ≡ first_of text ∷ ws)
 first_named text token ws is = let first = sym (ap (λ ws. get_or ws 0 []) is) in (first, is ∙ ap (λ t. t ∷ ws) first)
 
--- the result for a value found so far, or none, and the rest of the pointer
+-- the result of following the pointer `left` from the value found so far, if any
 abbrev pub outcome : Option Tree → List ℕ → Option (Option Tree)
 outcome found left = option_map (λ tokens. option_and_then (λ t. followed t tokens) found) (all_meant (written_tokens left))
 
@@ -82,7 +82,7 @@ meant_longer b text e = by_tests (λ o. o ≡ Some [] → ⊥) (eqb b 126) _ _ (
 pub none_zero : (n : ℕ) → false ≡ (suc n == 0)
 none_zero n = grind (arith, nat_tests)
 
--- if no more byte can be split off
+-- if `left` is empty or malformed, it has a meaning exactly if it is empty
 pub none_left : (left : List ℕ) → (meant left ≡ None) ⊎ (left ≡ []) → is_some (meant left) ≡ (length left == 0)
 none_left [] h = refl
 none_left (b ∷ text) (inl e) = ap is_some e ∙ none_zero (length text)
@@ -92,14 +92,14 @@ pub all_left : (left : List ℕ) (r : Bool) → r ≡ (length left == 0) → IsT
 all_left [] r e = (λ t. refl, λ f. e)
 all_left (b ∷ text) r e = (λ t. absurd (true≢false (sym t ∙ e ∙ sym (none_zero (length text)))), λ f. absurd (meant_longer b text f))
 
--- the rest has no byte for one of the key's
+-- if `left` is empty or malformed but `key` has a byte at `i`, then `left` does not mean the rest of `key`
 pub byte_none : (P : Type 0) (key left : List ℕ) (i : ℕ) → i < length key → (meant left ≡ None) ⊎ (left ≡ [])
     → P ↔ (meant left ≡ Some (drop i key)) → P → ⊥
 byte_none P key left i l (inl e) both f = let g = sym e ∙ both.0 f in absurd (cc)
 byte_none P key left i l (inr e) both f =
     let g = ap meant (sym e) ∙ both.0 f ∙ ap (λ x. Some x) (drop_more key i 0 l) in absurd (cc)
 
--- the key has no more bytes
+-- if `key` has no byte at `i`, then `left` means the rest of `key` exactly if it is empty
 pub key_ended : (P : Type 0) (key left : List ℕ) (i : ℕ) (r : Bool) → length key ≤ i → r ≡ (length left == 0)
     → P ↔ (meant left ≡ Some (drop i key)) → IsTrue r ↔ P
 key_ended P key left i r h e both =

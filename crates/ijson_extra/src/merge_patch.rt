@@ -174,7 +174,7 @@ fn changed_value(
     }
 }
 
-/// Returns the keys of an object and then the new ones of a patch, each with its change.
+/// Returns the keys of `object`, then the keys that only `changes` has, each with its change, if any.
 #[inline(never)]
 fn joined_keys<'a>(
     alloc: Global,
@@ -190,7 +190,7 @@ fn joined_keys<'a>(
     Ok(table.into_pairs())
 }
 
-/// Returns what was made, or an error that does not tell a lack of memory from too many entries.
+/// Returns the value of `made`, or an error that does not distinguish a failed allocation from too many entries.
 fn within_memory<T>(made: Result<T, ReserveError>) -> Result<T, AllocError>
     ensures { IfOk result (λ value. made ≡ Ok value) }
 {

@@ -1,4 +1,4 @@
--- The strings that reading adds to the cache. As the Rust crate `ijson`, which interns each key and each string that it reads.
+-- Reading adds only strings of the text to the cache. The Rust crate `ijson` likewise interns each key and string that it reads.
 use Rattle.std.specs.Prelude.{◌≡◌, ℕ, ◌<◌, true, ◌⊎◌, List, ◌++◌, length}
 use Rattle.std.specs.FinSet as set
 use Rattle.ijson_string.specs.Cache.{Texts}

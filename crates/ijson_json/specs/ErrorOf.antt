@@ -21,7 +21,8 @@ pub record TooDeepAt (text : List ℕ) (at : ℕ) : Type 0 where
   pub place : IsValuePlace max_depth before
   pub opens : (bracket ≡ 91) ⊎ (bracket ≡ 123)
 
--- a number beyond the limit, which no byte continues, where a value may begin, after bytes that begin a text within the limits
+-- a number out of range is at `at`: `before` begins a text within the limits, a value may follow `before`, and the longest prefix of
+-- `rest` that begins a number spells a number beyond the limit
 pub record OutOfRangeAt (text : List ℕ) (at : ℕ) : Type 0 where
   pub before : List ℕ
   pub rest : List ℕ
@@ -41,7 +42,7 @@ pub record BadEscapeAt (text : List ℕ) (at : ℕ) : Type 0 where
   pub place : IsCharacterPlace before
   pub none : (written meant rest : List ℕ) → Character written meant → 92 ∷ letters ≢ written ++ rest
 
--- the text is not JSON; the bytes before the offset begin a JSON text, and none begins with the next byte too, if there is one
+-- the text is not JSON: the bytes before the offset begin a JSON text, but not together with the next byte, if there is one
 pub record StuckAt (text : List ℕ) (at : ℕ) : Type 0 where
   pub before : List ℕ
   pub rest : List ℕ
@@ -51,8 +52,8 @@ pub record StuckAt (text : List ℕ) (at : ℕ) : Type 0 where
   pub no_reading : HasNoReading text
   pub ends : (b : ℕ) (more : List ℕ) → rest ≡ b ∷ more → Begins (before ++ b ∷ []) → ⊥
 
--- The first that occurs. A limit is exceeded before the text stops to be JSON, so an error of syntax is that of a text that exceeds none. It
--- is at the backslash of a bad escape, otherwise at the first byte with which no JSON text goes on, or at the length of the text.
+-- The first error that occurs. A limit is exceeded before the text stops being JSON, so a text with a syntax error exceeds no limit. A
+-- syntax error is at the backslash of a bad escape, otherwise at the first byte with which no JSON text goes on, or at the end of the text.
 abbrev pub IsErrorOf : List ℕ → JsonError → Type 0
 IsErrorOf text (Syntax at) =
     ((m : ℕ) → TooDeepAt text m → ⊥) × ((m : ℕ) → OutOfRangeAt text m → ⊥)

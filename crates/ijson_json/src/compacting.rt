@@ -117,9 +117,9 @@ pub fn compact<R: Source, W: Sink, S: BuildHasher>(
     ensures never_memory { result ≢ Err (Json Memory) }
     // The cache only gains strings that the input spells.
     ensures cache { AddsOnlyLeft (R.left input.old) cache.old cache.new }
-    // It is unchanged if no input was parsed.
+    // The cache is unchanged if no input was parsed.
     ensures unread { (result ≡ Err Read) ⊎ (result ≡ Err NotUtf8) → cache.new ≡ cache.old }
-    // It contains each long string and key of the input.
+    // On success, the cache contains each string and key of the input that has more than 7 bytes.
     ensures shared { OnOk result (IfSome (R.left input.old)
         (λ bytes. SharesTextsOf bytes cache.new)) }
 {

@@ -21,7 +21,7 @@ pub enum JsonError {
     /// Nesting deeper than 127, at the opening bracket.
     #[error("nesting too deep at byte {at}")]
     TooDeep { at: usize },
-    /// A number whose exponent without trailing zeros is below -2^30 or above 2^30, at its first byte.
+    /// A nonzero number with a canonical exponent below -2^30 or above 2^30, at its first byte.
     #[error("number out of range at byte {at}")]
     NumberRange { at: usize },
     /// An allocation failed.

@@ -144,9 +144,9 @@ fn compare_magnitudes<D: DigitRow>(a: &D, b: &D, looks: &mut Looks) -> Ordering
 ///
 /// # Cost
 ///
-/// Reads digits only if the signs and the leading places are equal, and then at most two for each digit of the number with fewer.
-/// `1e1000000000` and `2` differ by their leading places, so none of their digits is read. Does not allocate, and writes no
-/// exponent out as zeros.
+/// Reads digits only if the signs and the leading places are equal, and then at most 2 n, where n is the smaller number of digits.
+/// `1e1000000000` and `2` have different leading places, so no digit is read. Does not allocate, and does not expand exponents
+/// to zeros.
 pub fn compare<D: DigitRow>(a: &D, b: &D, looks: &mut Looks) -> Ordering
     requires fits { NeedsDigits (D.num a.now).decimal (D.num b.now).decimal →
         looks.old + most_looks (D.num a.now).decimal (D.num b.now).decimal < 2 ^ 128 }

@@ -166,7 +166,9 @@ fn read_exponent(bytes: &[u8]) -> Option<(i32, usize)>
     Some((power, bytes.len() - rest.len()))
 }
 
-/// Adds the exponent that follows, if there is one. The exponent of zero is 0.
+/// Adds the exponent at the start of `rest` to the exponent of `front`.
+///
+/// Returns `None` if `read_exponent` does. The exponent of zero is 0.
 ///
 /// Inlined, so that the return slot of `read_exponent` is zeroed only if there is an exponent.
 #[inline(always)]

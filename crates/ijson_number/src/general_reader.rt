@@ -101,7 +101,9 @@ pub struct Tail<'a> {
     pub point: bool,
 }
 
-/// Reads the part after the whole digits, and returns the text after it, or the text that stopped it.
+/// Reads a fraction and an exponent, if present; returns them and the remaining bytes.
+///
+/// Returns `Err` with the bytes from the missing digit on.
 #[inline(always)]
 fn read_tail(bytes: &[u8]) -> Result<(Tail<'_>, &[u8]), &[u8]>
     ensures ok { IfOk result (λ r. IsTailRead bytes.now r.0 r.1.now) }

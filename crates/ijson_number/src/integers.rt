@@ -238,7 +238,7 @@ impl INumber {
 
     /// Returns the value if it is a whole number in the range of `i32`, and `None` otherwise.
     ///
-    /// Like `to_i64`.
+    /// Like `to_i64`, ignores the decimal point, takes constant time and does not allocate.
     pub fn to_i32(&self) -> Option<i32>
         ensures some { IfSome result (λ z. HasValue self.now.decimal z) }
         ensures none { IfNone result
@@ -249,7 +249,7 @@ impl INumber {
 
     /// Returns the value if it is a whole number in the range of `isize`, and `None` otherwise.
     ///
-    /// Like `to_i64`.
+    /// Like `to_i64`, ignores the decimal point, takes constant time and does not allocate.
     pub fn to_isize(&self) -> Option<isize>
         ensures some { IfSome result (λ z. HasValue self.now.decimal z) }
         ensures none { IfNone result
@@ -260,7 +260,7 @@ impl INumber {
 
     /// Returns the value if it is a whole number in the range of `u64`, and `None` otherwise.
     ///
-    /// Like `to_i64`.
+    /// Like `to_i64`, ignores the decimal point, takes constant time and does not allocate.
     pub fn to_u64(&self) -> Option<u64>
         ensures some { IfSome result (λ n. HasValue self.now.decimal (pos n)) }
         ensures none { IfNone result
@@ -271,7 +271,7 @@ impl INumber {
 
     /// Returns the value if it is a whole number in the range of `u32`, and `None` otherwise.
     ///
-    /// Like `to_i64`.
+    /// Like `to_i64`, ignores the decimal point, takes constant time and does not allocate.
     pub fn to_u32(&self) -> Option<u32>
         ensures some { IfSome result (λ n. HasValue self.now.decimal (pos n)) }
         ensures none { IfNone result
@@ -282,7 +282,7 @@ impl INumber {
 
     /// Returns the value if it is a whole number in the range of `usize`, and `None` otherwise.
     ///
-    /// Like `to_i64`.
+    /// Like `to_i64`, ignores the decimal point, takes constant time and does not allocate.
     pub fn to_usize(&self) -> Option<usize>
         ensures some { IfSome result (λ n. HasValue self.now.decimal (pos n)) }
         ensures none { IfNone result

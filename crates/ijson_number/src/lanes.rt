@@ -1,4 +1,4 @@
-//! Vectors of 16 digits: reads up to 16 leading digits as one, converts numbers to them, and appends them.
+//! Digits in 16-byte vectors: counts leading digits, converts between digits and integers, and appends digits.
 ghost use Rattle.std.specs.Prelude.{◌≡◌, ◌+◌, ◌-◌, ◌/◌, ◌%◌, ◌^◌, ◌<◌, ◌≤◌, [], ◌∷◌, ◌++◌, drop, length, replicate, take, OnErr, OnOk};
 ghost use Rattle.std.specs.Int.Digits.{AllBelowBase, number_from_digits};
 ghost use Rattle.std.specs.Str.{IsAscii};

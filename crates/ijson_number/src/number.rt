@@ -115,16 +115,16 @@ impl INumber {
 
     /// Reads the leading number; returns it and its length in bytes.
     ///
-    /// It takes all bytes that a number could begin with: `1.5.5` is 1.5 and `01` is 0, but `1.x` is no number.
+    /// It reads the longest prefix with which a number can begin: `1.5.5` gives 1.5 and `01` gives 0, but `1.x` fails.
     ///
     /// # Errors
     ///
-    /// `Syntax` if these bytes are no number, with how many they are: 2 for `1.x`, 1 for `-`, 0 for an empty text. `OutOfRange` if the
-    /// canonical exponent is out of range. `Memory` if an allocation fails.
+    /// `Syntax` if the longest prefix with which a number can begin is not a number, with its length: 2 for `1.x`, 1 for `-`, 0 for an
+    /// empty text. `OutOfRange` if the canonical exponent is out of range. `Memory` if an allocation fails.
     ///
     /// # Cost
     ///
-    /// Linear in the number, whatever the exponent. It allocates only if the form is a list of digits.
+    /// Linear in the number, whatever the exponent. It allocates only if the number is stored as a list of digits.
     #[inline(always)]
     pub fn read_front(alloc: Global, text: &str) -> Result<(INumber, usize), ReadNumberError>
         // Some number begins with the bytes read, and none with one byte more.

@@ -39,7 +39,9 @@ impl Model for INumber {
 impl INumber {
     ghost use Rattle.ijson_number.specs.private.StrippedNumber.{decimal_of};
 
-    /// Returns the number by its canonical digits, which are written to `buffer` unless they are stored.
+    /// Returns the parts of the number, with canonical digits.
+    ///
+    /// Digits that are not stored are written to `buffer`.
     pub(crate) fn stripped<'a>(&'a self, buffer: &'a mut [u8; MAX_DIGITS]) -> StrippedNumber<'a>
         ensures { decimal_of result ≡ self.now.decimal }
     {

@@ -85,7 +85,7 @@ pub fn push_integer(negative: bool, magnitude: u64, out: &mut String) -> Result<
 
 /// Appends a packed number with a decimal point.
 ///
-/// Returns `None`, with nothing appended, if its text has an exponent, or zeros before the point that are not digits.
+/// Returns `None`, with nothing appended, if its text has an exponent, or zeros between the digits and the point.
 #[inline(always)]
 fn push_pointed(mantissa: i64, exponent: i8, out: &mut String) -> Option<Result<(), AllocError>>
     requires form { form_of (stripped_number mantissa exponent true) ≡ packed mantissa exponent true }
@@ -108,9 +108,9 @@ fn push_pointed(mantissa: i64, exponent: i8, out: &mut String) -> Option<Result<
 }
 
 impl StrippedNumber<'_> {
-    /// Appends the minus, if there is one, and the digits, with the point after the first `before` of them.
+    /// Appends the minus, if there is one, and the digits, with the point after the first `before` digits.
     ///
-    /// If there are at most 16 digits, `lanes` ends with them.
+    /// If there are at most 16 digits, `lanes` must end with them.
     #[inline(always)]
     fn push_split(&self, lanes: u8x16, before: usize, out: &mut String) -> Result<(), AllocError>
         requires all { length lanes ≡ 16 }
@@ -163,7 +163,7 @@ impl StrippedNumber<'_> {
 
     /// Appends the minus, if there is one, `0.`, `zeros` zeros, and the digits.
     ///
-    /// If there are at most 16 digits, `lanes` ends with them.
+    /// If there are at most 16 digits, `lanes` must end with them.
     #[inline(always)]
     fn push_fraction(&self, lanes: u8x16, zeros: usize, out: &mut String) -> Result<(), AllocError>
         requires all { length lanes ≡ 16 }
@@ -197,10 +197,9 @@ impl StrippedNumber<'_> {
         push_integer(power < 0, power.unsigned_abs() as u64, out)
     }
 
-    /// Appends the number if the point is before its digits or an exponent follows two or more digits.
+    /// Appends a nonzero number whose text begins with `0.` after the sign, or has an exponent and two or more digits.
     ///
-    /// Otherwise returns `None`, with nothing appended. If there are at most 16 digits, `lanes` ends with them. Not inlined, like
-    /// `push_digits`.
+    /// Returns `None`, with nothing appended, for any other number. If there are at most 16 digits, `lanes` must end with them.
     #[inline(never)]
     fn push_unsplit(&self, lanes: u8x16, out: &mut String) -> Option<Result<(), AllocError>>
         requires all { length lanes ≡ 16 }
@@ -229,7 +228,7 @@ impl StrippedNumber<'_> {
     /// Appends a number with a decimal point, or returns `None` with nothing appended.
     ///
     /// It returns `None` only if an exponent follows a single digit, zeros are between the digits and the point, or there is no decimal
-    /// point. If there are at most 16 digits, `lanes` ends with them.
+    /// point. If there are at most 16 digits, `lanes` must end with them.
     #[inline(never)]
     fn push_digits(&self, lanes: u8x16, out: &mut String) -> Option<Result<(), AllocError>>
         requires all { length lanes ≡ 16 }
@@ -252,7 +251,9 @@ impl StrippedNumber<'_> {
 }
 
 impl INumber {
-    /// Appends the text if vectors write it, and otherwise returns `None`, with nothing appended.
+    /// Appends the number without a formatter.
+    ///
+    /// Returns `None`, with nothing appended, if only `push_slow` can write it.
     #[inline(always)]
     fn push_fast(&self, out: &mut String) -> Option<Result<(), AllocError>>
         ensures pushed { Pushed result (string_bytes out.old) (string_bytes out.new) (num_text self.now.decimal) }

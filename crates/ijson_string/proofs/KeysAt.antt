@@ -12,14 +12,14 @@ use Rattle.ijson_string.specs.private.Keys.{Key, buckets_of, keys_of, no_key, te
 abbrev pub buckets_of_keys : ℕ → List Key → List ℕ
 buckets_of_keys count keys = map (λ k. bucket_of count k.hash) keys
 
--- each string has a key
+-- the strings of the keys built from hashes and strings are these strings, if both lists are equally long
 pub texts-keys : (hashes : List ℕ) (texts : List (List ℕ)) → length texts ≡ length hashes → texts_of (keys_of hashes texts) ≡ texts
 texts-keys [] [] e = refl
 texts-keys [] (t ∷ texts) e = absurd (omega arith)
 texts-keys (h ∷ hashes) [] e = absurd (omega arith)
 texts-keys (h ∷ hashes) (t ∷ texts) e = ap (λ texts. t ∷ texts) (texts-keys hashes texts (omega arith))
 
--- each hash has a key
+-- there are as many keys as hashes
 pub length-keys : (hashes : List ℕ) (texts : List (List ℕ)) → length texts ≡ length hashes → length (keys_of hashes texts) ≡ length hashes
 length-keys hashes texts e = sym (length-map (keys_of hashes texts) (λ k. k.text)) ∙ ap length (texts-keys hashes texts e) ∙ e
 

@@ -8,9 +8,9 @@ use std::hash::{BuildHasher, FoldHasher, Hasher};
 use std::io;
 use std::random::RandomSource;
 
-/// A builder of std's hashers, each of which has been fed one seed.
+/// A `BuildHasher` of `FoldHasher`s that all start from the same seed.
 ///
-/// Strings from strangers need a seed that they don't know, since `FoldHasher` alone is fixed and public.
+/// Untrusted strings require a secret seed, since `FoldHasher` alone is fixed and public.
 #[derive(Clone, Copy, Drop)]
 pub struct SeededState {
     /// A hasher that was fed the seed.

@@ -16,7 +16,7 @@ resident slots p = get_or slots p None
 unfoldable pub home_at : ℕ → List ℕ → ℕ → ℕ
 home_at n hashes i = get_or hashes i 0 % n
 
--- The displacement of the resident of slot p: 0 for none, else one more than its distance from its home slot.
+-- The displacement of the resident of slot p: its distance from its home slot plus one, or 0 if the slot is empty.
 abbrev pub displaced : ℕ → List ℕ → ℕ → Option ℕ → ℕ
 displaced n hashes p None = 0
 displaced n hashes p (Some i) = distance n (home_at n hashes i) p + 1
@@ -33,7 +33,7 @@ holds i (Some j) = eqb i j
 unfoldable pub times : ℕ → List (Option ℕ) → ℕ
 times i slots = count_by (holds i) slots
 
--- one for each of the first indices, and zero for any other
+-- 1 for each index below `count`, and 0 for any other
 abbrev pub below : ℕ → ℕ → ℕ
 below count i = (if ltb i count then 1 else 0)
 
@@ -47,16 +47,16 @@ IsOrdered hashes slots =
 -- The invariant of a table of keys with these hashes.
 pub record IsTable (hashes : List ℕ) (slots : List (Option ℕ)) : Type 0 where
   pub ordered : IsOrdered hashes slots
-  -- each index of the list is in one slot, and nothing else is in any
+  -- each index of the list is in exactly one slot, and no other index is in a slot
   pub placed : (i : ℕ) → times i slots ≡ below (length hashes) i
 
 -- The bounds on the inspections of a lookup for this key, for any hash.
 pub record IsBounded (hash : List ℕ → ℕ) (keys : List (List ℕ)) (slots : List (Option ℕ)) (c : ℕ) (key : List ℕ) (looks : ℕ) : Type 0 where
   -- if a slot is empty
   pub some_empty : (p : ℕ) → p < length slots → resident slots p ≡ None → looks ≤ crowd hash keys c key + 1
-  -- if none is
+  -- if no slot is empty
   pub none_empty : ((p : ℕ) → p < length slots → resident slots p ≢ None) → looks ≤ length keys
-  -- so in any case
+  -- in any case, at most one inspection more than there are keys
   pub always : looks ≤ length keys + 1
-  -- and at least one, if there is a slot
+  -- at least one inspection, if there is a slot
   pub some_look : 0 < length slots → 0 < looks

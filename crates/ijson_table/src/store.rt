@@ -112,8 +112,8 @@ pub trait PairStore<V>: Sized {
     /// # Cost
     ///
     /// A growth moves each entry at most once. A table then fills new slots, in time linear in both capacities if few
-    /// keys collide. If many of more than 127 do, it sorts entries of 16 bytes each in temporary memory. So, for all
-    /// keys, the time is at most O(n log n).
+    /// keys collide. If there are more than 127 keys and many of them collide, it sorts entries of 16 bytes each in
+    /// temporary memory. So, for all keys, the time is at most O(n log n).
     fn reserve(&mut self, additional: usize) -> Result<(), ReserveError>
         ensures grown { Grow (length (pairs self.old)) (room self.old) additional result (room self.new) }
         ensures room { OnOk result (length (pairs self.new) + additional ≤ room self.new) }
@@ -121,8 +121,9 @@ pub trait PairStore<V>: Sized {
 
     /// Shrinks the capacity to the length.
     ///
-    /// Does not allocate if the two are equal or the length is 0. Each entry moves at most once, and a table fills
-    /// new slots. If many of more than 63 keys collide, it sorts entries as in growth.
+    /// Does not allocate if the capacity equals the length or the length is 0. Each entry moves at most once, and a
+    /// table fills new slots. If there are more than 63 keys and many of them collide, it sorts entries in temporary
+    /// memory, like `reserve`.
     ///
     /// # Errors
     ///
@@ -209,7 +210,7 @@ pub trait PairStore<V>: Sized {
         ensures pairs { pairs self.new ≡ [] }
         ensures room { room self.new ≡ room self.old };
 
-    /// Another value changes no key, no other entry and not the capacity.
+    /// Setting a value leaves the keys, the other entries and the capacity unchanged.
     ghost set_value_is: { (s : Self) (i : ℕ) (v : V)
         → (pairs (set_value s i v) ≡ with_value (pairs s) i v) × (room (set_value s i v) ≡ room s) };
 }

@@ -186,9 +186,9 @@ impl<V: Drop, H: KeyHash> Table<V, H> {
         }
     }
 
-    /// Sets the capacity, to the length or to at least the old one.
+    /// Sets the capacity to `capacity`, which must be the length or at least the old capacity.
     ///
-    /// It counts the steps of `slots_with_capacity`. If an allocation fails, nothing changes.
+    /// Adds the steps of `slots_with_capacity` to `looks`. If an allocation fails, the table is unchanged.
     fn set_capacity(&mut self, capacity: usize, looks: &mut Looks) -> Result<(), AllocError>
         requires room { HasRoom (length self.old.store.pairs) capacity }
         requires grows { length self.old.store.pairs < capacity → self.old.store.capacity ≤ capacity }

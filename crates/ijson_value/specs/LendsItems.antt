@@ -1,5 +1,4 @@
--- An array after a mutable borrow of its elements as a slice ends: the elements are those last written, their number and the capacity are
--- unchanged.
+-- When a mutable borrow of the elements of an array ends, the array has the elements last written; its length and capacity are unchanged.
 use Rattle.std.specs.Prelude.{List, ◌++◌, length, take, drop}
 use Rattle.std.specs.Borrow.{Lends, MutBor, Array, Fml, follows}
 use Rattle.std.specs.Slice.Iter.{iter_mut_name}

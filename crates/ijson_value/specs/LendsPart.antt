@@ -30,6 +30,6 @@ LendsArray s r = LendsIf value.the_row arrays.the_row s r (λ a. array_value a.i
 abbrev pub LendsObject : MutBor WellFormed → Option (MutBor (Store WellFormed)) → Fml
 LendsObject s r = LendsIf value.the_row objects.the_row s r object_value s.now
 
--- the content of a value, which always exists
+-- a mutable borrow of the content of a value; not an `Option`, since every value has content
 abbrev pub LendsOpened : MutBor WellFormed → MutBor Destructured → Fml
 LendsOpened s r = Lends value.the_row node.the_row s r node_value

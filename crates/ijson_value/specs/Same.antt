@@ -6,7 +6,7 @@ use Rattle.ijson_number.specs.Order.{number_cmp}
 use Rattle.ijson_value.specs.Tree.{Tree, null, boolean, number, string, array, object, Items, no_items, item, Members, no_members, member}
 use Rattle.ijson_value.specs.Tree.{members_len}
 
--- the entry of k and u is one of these
+-- the members have an entry with key k and value u
 abbrev pub Has : List ℕ → Tree → Members → Type 0
 Has k u no_members = ⊥
 Has k u (member j v qs) = ((k ≡ j) × (u ≡ v)) ⊎ Has k u qs
@@ -21,13 +21,13 @@ abbrev mutual
   Same (object ps) (object qs) = (members_len ps ≡ members_len qs) × SameIn ps qs
   Same _ _ = ⊥
 
-  -- the same length and the same elements
+  -- equal lengths, and equal elements in order
   pub SameEach : Items → Items → Type 0
   SameEach no_items no_items = Unit {0}
   SameEach (item t ts) (item u us) = Same t u × SameEach ts us
   SameEach _ _ = ⊥
 
-  -- each entry of ps has one in qs with its key and the same value
+  -- for each entry of `ps`, `qs` has an entry with the same key and an equal value
   pub SameIn : Members → Members → Type 0
   SameIn no_members qs = Unit {0}
   SameIn (member k t ps) qs = ((u : Tree) × Has k u qs × Same t u) × SameIn ps qs

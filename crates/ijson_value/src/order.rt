@@ -26,9 +26,10 @@ fn value_cmp(a: &IValue, b: &IValue) -> Option<Ordering>
     }
 }
 
-/// Returns the order of two arrays of these elements, if they are ordered.
+/// Returns the order of arrays of `xs` and `ys`, if they are ordered.
 ///
-/// It is the first element order that is not `Equal`, be it missing, or else the order of the lengths.
+/// Compares the elements in order, and returns the first result that is not `Some(Equal)`, even a missing order. If all elements are equal,
+/// compares the lengths.
 #[cycle(order)]
 fn items_cmp(xs: &[IValue], ys: &[IValue]) -> Option<Ordering>
     ensures { result ≡ tree_cmp (array_tree xs.now) (array_tree ys.now) }

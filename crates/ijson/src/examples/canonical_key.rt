@@ -27,7 +27,7 @@ fn key_of(alloc: Global, value: &IValue) -> Result<CanonicalKey, AllocError>
     Ok(CanonicalKey { text })
 }
 
-/// Returns `true` if two values have the same key, so if they are equal.
+/// Returns `true` if `a` and `b` have the same canonical key, that is, if they are equal.
 fn same_key(alloc: Global, a: &IValue, b: &IValue) -> Result<bool, AllocError>
     ensures { IfOk result (λ same. IsTrue same ↔ Same a.now.tree b.now.tree) }
 {
@@ -49,7 +49,7 @@ static PAIRS: [(&str, &str, bool); 5] = [
     ("1e400", "10e399", true),
 ];
 
-/// Asserts whether the values of two texts have the same key.
+/// Asserts that the values of the texts `a` and `b` have the same key if `want`, and different keys otherwise.
 fn have_one_key(rt: &impl Abort, alloc: Global, a: &str, b: &str, want: bool) {
     let a = parsed(rt, alloc, a);
     let b = parsed(rt, alloc, b);

@@ -13,9 +13,9 @@ use crate::IValue;
 enum TotalError {
     /// The value is not an array.
     NoArray,
-    /// The line at this index has no amount, or one that is not a whole number of 64 bits.
+    /// The line at this index has no amount, or an amount that is not a whole number of 64 bits.
     NoAmount(usize),
-    /// The sum of the amounts up to some line is not an `i64`, even if that of all is.
+    /// A running sum of the amounts overflows `i64`, even if the total would fit.
     TooLarge,
 }
 

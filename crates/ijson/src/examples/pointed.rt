@@ -51,7 +51,7 @@ fn pointed_in(alloc: Global, value: &IValue, pointer: &str) -> Result<String, Po
     }
 }
 
-/// Returns the text of the value at a pointer in a text.
+/// Parses `text`, and returns the value at `pointer` as JSON text.
 fn pointed<S: BuildHasher>(
     alloc: Global,
     cache: &mut StringCache<S>,

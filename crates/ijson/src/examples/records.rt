@@ -20,7 +20,7 @@ fn has_id(value: &IValue) -> bool
     }
 }
 
-/// Returns the number of elements of an array that have no id, or `None` for another value.
+/// Returns the number of elements without an id, or `None` if `value` is not an array.
 fn count_refused(value: &IValue) -> Option<usize>
     ensures some { IfSome result (λ count. RefusesSoMany value.now.tree count) }
     ensures none { IfNone result (kind_of value.now.tree ≢ kind.Array) }

@@ -34,14 +34,14 @@ push_item (x ∷ vs) (y ∷ us) v u (item t ts) w h s m =
     let r = push_item vs us v u ts w.1 h.1 s.1 m in
     (item t r.0, (w.0, r.1), (h.0, r.2), (s.0, r.3))
 
--- an array with one more element means the same
+-- if arrays mean the same and `v` means `u`, the arrays with `v` and `u` appended mean the same
 pub array_means : (vs : List Value) (us : List WellFormed) (v : Value) (u : WellFormed)
     → SerdeMeans (serde.array (items_view vs)) (array_tree us) → SerdeMeans (view v) u.tree
     → SerdeMeans (serde.array (items_view (vs ++ v ∷ []))) (array_tree (us ++ u ∷ []))
 array_means vs us v u (array ts, w, h, s) m = let r = push_item vs us v u ts w h s m in (array r.0, r.1, r.2, r.3)
 array_means vs us v u (t, w, h, s) m = absurd h
 
--- no elements mean a list in which one has no meaning
+-- no serde elements mean a list that has an element without a meaning
 items_unmeant : (before : List WellFormed) (u : WellFormed) (left : List WellFormed) → NoSerdeMeans u.tree
     → (ds : serde.Items) (ts : Items) → AreWellFormed ts → SerdeItems ds ts
     → SameEach ts (item_trees (before ++ u ∷ left)) → ⊥
@@ -52,7 +52,7 @@ items_unmeant before u left never serde.no_items (item t ts) w h s = h
 items_unmeant [] u left never ds no_items w h s = s
 items_unmeant (x ∷ before) u left never ds no_items w h s = s
 
--- an array with an element without a meaning has none
+-- an array that has an element without a meaning has no meaning
 pub array_unmeant : (before : List WellFormed) (u : WellFormed) (left : List WellFormed) → NoSerdeMeans u.tree
     → NoSerdeMeans (array_tree (before ++ u ∷ left))
 array_unmeant before u left never (serde.array ds) (array ts, w, h, s) = items_unmeant before u left never ds ts w h s
@@ -89,7 +89,7 @@ module _ (old new : Members) (grows : (j : List ℕ) (u : Tree) → Has j u old 
     well = λ w h. (h.0, a.well w h.1);
   }
 
-  -- the map inserts it in the order of the keys
+  -- if members `ms` mean `ps`, then `serde.put k d ms` means `ps` with the member added
   added : (ms : serde.Members) (ps : Members) → SerdeMembers ms ps → SerdeTree d t → Lacks k (member_keys ps)
       → (qs : Members) × SerdeMembers (serde.put k d ms) qs × Added ps qs
   added serde.no_members no_members h s l = (member k t no_members, (refl, s, tt), added_first no_members)
@@ -106,13 +106,13 @@ module _ (old new : Members) (grows : (j : List ℕ) (u : Tree) → Has j u old 
       ] refl
 
 -- ---- objects
--- a key missing from an object is missing from members that are all in it
+-- a key that `qs` lacks is missing from members that are all in `qs`
 lacks_inside : (k : List ℕ) (ps qs : Members) → SameIn ps qs → Lacks k (member_keys qs) → Lacks k (member_keys ps)
 lacks_inside k no_members qs s l = tt
 lacks_inside k (member j t ps) qs s l =
     (λ e. lacks_it k s.0.0 qs l (subst (λ i. Has i s.0.0 qs) (sym e) s.0.1), lacks_inside k ps qs s.1 l)
 
--- an object with one more entry means the same
+-- if objects mean the same and `d` means `p.1`, the objects with the entry of the new key `p.0` mean the same
 pub object_means : (es : serde.Members) (done : List (List ℕ × WellFormed)) (d : Data) (p : List ℕ × WellFormed)
     → Lacks p.0 (keys_of done) → SerdeMeans d p.1.tree → SerdeMeans (serde.object es) (object_tree done)
     → SerdeMeans (serde.object (serde.put p.0 d es)) (object_tree (done ++ p ∷ []))
@@ -124,7 +124,7 @@ object_means es done d p lacks m (object ps, w, h, s) =
     (object a.0, (a.2.distinct without w.0, a.2.well m.1 w.1), a.1, (a.2.len ∙ ap suc s.0 ∙ sym (len_last done p), a.2.same s.1))
 object_means es done d p lacks m (t, w, h, s) = absurd h
 
--- the value of a member
+-- the tree of each member is the tree of a serde value
 child : (ms : serde.Members) (ps : Members) (k : List ℕ) (t : Tree) → SerdeMembers ms ps → Has k t ps
     → (d : Data) × SerdeTree d t
 child serde.no_members no_members k t h q = absurd q
@@ -135,7 +135,7 @@ child (serde.member i d ms) (member j u ps) k t h q = elim q [
   | inr n ↦ child ms ps k t h.2 n
 ]
 
--- an object with a member that has no meaning has none
+-- an object with a member without a serde meaning has no serde meaning
 pub object_unmeant : (qs : Members) → IsWellFormed (object qs) → (k : List ℕ) (u : Tree) → IsWellFormed u → Has k u qs → NoSerdeMeans u
     → NoSerdeMeans (object qs)
 object_unmeant qs well k u is has never (serde.object ms) (object ps, w, h, s) =

@@ -28,7 +28,7 @@ position_digits (b ∷ c ∷ token) e = (and_parts (not (b == 48)) (all_ascii_di
 pub digits_meant : (token : List ℕ) → all_ascii_digits token ≡ true → meant token ≡ Some token
 digits_meant token e = meant_itself token (not_in_digits own token 126 e not_digit)
 
--- the first byte and the rest of the meaning of a text, if both are digits
+-- if `b` before the list in `o` gives the digits `m`, then `b` is a digit and the list in `o` is all digits
 with_first : (b : ℕ) (o : Option (List ℕ)) (m : List ℕ) → option_map (λ token. b ∷ token) o ≡ Some m → all_ascii_digits m ≡ true
     → (n : List ℕ) × (o ≡ Some n) × (b ∷ n ≡ m) × (is_ascii_digit b ≡ true) × (all_ascii_digits n ≡ true)
 with_first b None m e h = absurd (cc)

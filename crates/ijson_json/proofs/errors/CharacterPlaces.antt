@@ -26,19 +26,19 @@ use Rattle.ijson_json.proofs.errors.Places.{member_pair, descends}
 abbrev pub HasContent : List ℕ → Type 0
 HasContent text = (s rest : List ℕ) × ContentAt text s rest
 
--- a string that begins with a quote and these characters
+-- if a text begins with a JSON string, and with a quote and the characters of `body`, `rest` begins with the rest of a string
 string_goes : (k v z body s rest : List ℕ) → IsString k v → StringBody body s → v ++ z ≡ 34 ∷ (body ++ rest) → HasContent rest
 string_goes k v z body s rest (i, h, f) b e =
     let c = content_behind rest z b h (tails 34 34 _ _ (sym e ∙ enclosed_with 34 34 v i z f)) in (c.0, z, c.1)
 
--- and a value that does is such a string
+-- if a text begins with a value, and with a quote and the characters of `body`, `rest` begins with the rest of a string
 value_goes : (t : Tree) (v z body s rest : List ℕ) → IsValue t v → StringBody body s → v ++ z ≡ 34 ∷ (body ++ rest) → HasContent rest
 value_goes (string k) v z body s rest w b e = string_goes k v z body s rest w b e
 value_goes t v z body s rest w b e = absurd
     (let k : 3 ≡ rank t = kind_at t 34 (body ++ rest) (34 ∷ (body ++ rest)) z refl (record { front = v; holds = w; is = sym e }) in
     omega (arith, k))
 
--- white space, and a value that begins with the bytes of an open string
+-- if a text begins with a value in white space, and with an open string, `rest` begins with the rest of a string
 spaced_goes : (t : Tree) (first z p rest : List ℕ) → Spaced (λ value. IsValue t value) first → IsOpenString p → first ++ z ≡ p ++ rest
     → HasContent rest
 spaced_goes t first z p rest (b, v, a, sb, w, sa, f) (gap, body, s, sg, h, e) g =
@@ -48,7 +48,7 @@ spaced_goes t first z p rest (b, v, a, sb, w, sa, f) (gap, body, s, sg, h, e) g 
     let at = run_same is_space b gap (v ++ (a ++ z)) (34 ∷ (body ++ rest)) sb sg (value-past_space t v (a ++ z) w) refl same in
     value_goes t v (a ++ z) body s rest w h at.1
 
--- and so does a member, with its key
+-- if a text begins with a member, and with an open string, `rest` begins with the rest of a string
 key_goes : (m : List ℕ × Tree) (first z p rest : List ℕ) → Spaced (λ pair. Pair m pair) first → IsOpenString p → first ++ z ≡ p ++ rest
     → HasContent rest
 key_goes m first z p rest s o g =
@@ -56,12 +56,12 @@ key_goes m first z p rest s o g =
     let split : first ++ z ≡ q ++ 58 ∷ (v ++ z) = ap (λ (y : List ℕ). y ++ z) f ∙ append_assoc q (58 ∷ v) z in
     spaced_goes (string m.0) q (58 ∷ (v ++ z)) p rest is_key o (sym split ∙ g)
 
--- a text that begins with those of an open string does not begin with a bracket
+-- a text that begins with an open string begins with white space and a byte other than `closing`
 string_opening : (closing : ℕ) → ((34 == closing) ≡ false) → (p rest : List ℕ) → IsOpenString p → Opening closing (p ++ rest)
 string_opening closing apart p rest (gap, body, s, sg, h, e) =
     record { gap = gap; cur = 34 ∷ (body ++ rest); space = sg; past = refl; other = apart; is = rw e (simp append_assoc) }
 
--- a text that is JSON continues with the rest of the string where a character of it may begin
+-- if a character may begin after `before` in the JSON text `before ++ rest`, then `rest` begins with the rest of a string
 pub content_at : (before rest : List ℕ) (t : Tree) → IsCharacterPlace before → Spaced (λ value. IsValue t value) (before ++ rest) → HasContent rest
 content_at before rest t (opened, i) s =
     let d = descends i rest start t (before ++ rest) [] s tt (append-nil (before ++ rest)) in

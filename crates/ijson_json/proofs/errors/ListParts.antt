@@ -1,4 +1,4 @@
--- A list of elements after the first of them.
+-- The remaining elements of a comma-separated list, after its first elements.
 use Rattle.std.proofs.Common.{◌≡◌, ℕ, suc, ◌≤◌, Bool, true, false, List, [], ◌∷◌, ◌++◌, refl, sym, ◌∙◌, append_assoc, arith, ap}
 use Rattle.std.specs.Prelude.{◌&&◌, ◌==◌}
 use Rattle.ijson_value.specs.Tree.{Tree, depth}
@@ -12,7 +12,7 @@ use Rattle.ijson_json.proofs.grammar.FirstBytes.{value-past_space}
 use Rattle.ijson_json.proofs.reading.ElementLists.{deepest, all_ranged}
 use Rattle.ijson_json.proofs.reading.Elements.{Listing}
 
--- both of two tests that pass together
+-- if both of two tests pass, the first passes
 pub and_first : (a b : Bool) → (a && b) ≡ true → a ≡ true
 and_first true b e = refl
 and_first false b e = e
@@ -21,7 +21,7 @@ pub and_last : (a b : Bool) → (a && b) ≡ true → b ≡ true
 and_last true b e = e
 and_last false b e = absurd cc
 
--- the text begins with white space and a byte that is not the closing one
+-- the text begins with white space and a byte other than `closing`
 pub record Opening (closing : ℕ) (text : List ℕ) : Type 0 where
   pub gap : List ℕ
   pub cur : List ℕ
@@ -77,7 +77,7 @@ module _ (E : Type 0) (S : Shape E) where
             (Ends-any (S.inner e) _ (space-Stops s (44 ∷ text) ss refl)) refl refl ss refl in
             (omega (arith, ap (λ (v : E). depth (S.inner v)) q.0), behind u more a.tail a.left q.1)
 
-    -- the elements after some with their commas
+    -- after some elements with their commas, the text has the other elements of the list
     pub after_each : {P : List ℕ → Type 0} {pre : List ℕ} (text : List ℕ) (fs : List E) (i x : List ℕ) → EachWithComma P pre
         → ((first : List ℕ) → P first → (e : E) × Spaced (λ inside. S.Is e inside) first) → Opening S.closing text → IsList S.Is fs i
         → pre ++ text ≡ i ++ S.closing ∷ x → Others fs text x
@@ -99,7 +99,7 @@ module _ (E : Type 0) (S : Shape E) where
           ranged = λ r. others.ranged (one.ranged r);
         }
 
-  -- the first element of a list, with the white space around it
+  -- the text of a list begins with its first element and the white space around it
   pub first_element : (e : E) (more : List E) (inside x text : List ℕ) → IsList S.Is (e ∷ more) inside → text ≡ inside ++ S.closing ∷ x
       → (first behind : List ℕ) × Spaced (λ text. S.Is e text) first × Stops behind × (first ++ behind ≡ text)
   first_element e [] inside x text l g = (inside, S.closing ∷ x, l, S.closing-number, sym g)

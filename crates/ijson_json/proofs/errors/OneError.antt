@@ -1,4 +1,4 @@
--- The laws of the error of a text.
+-- A text has at most one error, and an accepted text has no error.
 use Rattle.std.proofs.Common.{◌≡◌, ℕ, true, List, [], ◌∷◌, ◌++◌, length, take, drop, sym, ap, subst, ◌∙◌, append_assoc, arith, inl, inr}
 use Rattle.std.proofs.lemmas.List.{take-append-drop}
 use Rattle.ijson_number.specs.NumberFront.{IsUnread}
@@ -50,7 +50,7 @@ same_range a b = elim (overlap a.before b.before a.rest b.rest (sym a.is ∙ b.i
   ]
 ]
 
--- a bracket begins no number
+-- a number does not begin with a bracket
 bracket_no_number : {text : List ℕ} {at : ℕ} (a : TooDeepAt text at) (rest : List ℕ) → a.bracket ∷ a.rest ≡ rest → IsUnread rest OutOfRange → ⊥
 bracket_no_number a rest e (count, front, past) =
     let kind = kind_at (number past.0) a.bracket a.rest rest (drop count rest) (sym e)

@@ -71,7 +71,7 @@ module _ {opened : ℕ} {before text : List ℕ} (c : ValueContext opened before
   token_text : before ++ text ≡ (before ++ d ∷ front) ++ rest
   token_text = ap (λ (l : List ℕ). before ++ l) is ∙ sym (append_assoc before (d ∷ front) rest)
 
-  -- a beginning of the text ends within these bytes, or is longer
+  -- a prefix of `before ++ text` is a prefix of `before ++ d ∷ front`, or extends past it
   part : (longer y : List ℕ) → longer ++ y ≡ before ++ text
       → ((z : List ℕ) × (longer ++ z ≡ before ++ d ∷ front)) ⊎ IsLonger (before ++ d ∷ front) longer rest y
   part longer y e = elim (overlap longer (before ++ d ∷ front) y rest (e ∙ token_text)) [
@@ -79,7 +79,7 @@ module _ {opened : ℕ} {before text : List ℕ} (c : ValueContext opened before
     | inr o ↦ elim o [ inl l ↦ inl (l.0 ∷ l.1, sym l.2) | inr l ↦ inr l ]
   ]
 
-  -- no value begins within these bytes
+  -- no value begins within `d ∷ front`, or at its end
   no_place : {m : ℕ} {longer : List ℕ} (y : List ℕ) → Inside IsSpace m longer → longer ++ y ≡ before ++ text → IsLonger before longer text y
       → (IsLonger (before ++ d ∷ front) longer rest y → ⊥) → ⊥
   no_place {longer = longer} y place e (b, mid, f, g) beyond = elim (part longer y e) [
@@ -212,7 +212,7 @@ module _ {b : ℕ} {word : List ℕ} {t : Tree} (w : Word b word t) (others : Li
 
 -- ---- a number
 
--- a text has one leading number front
+-- no number front of a text is longer than another
 front_within : (text : List ℕ) (count other : ℕ) → IsNumberFront text count → IsNumberFront text other → other ≤ count
 front_within text count other f g = elim (cases_lt count other) [
   | inl less ↦ absurd

@@ -1,4 +1,4 @@
--- The text of a tree spells it, except for the shapes of its numbers.
+-- The printed text of a tree spells the tree with each number `n` replaced by `shape n`.
 use Rattle.std.proofs.Common.{◌≡◌, ℕ, List, [], ◌∷◌, ◌++◌, refl, sym, ap, ap₂}
 use Rattle.std.proofs.lemmas.List.{append-nil}
 use Rattle.ijson_number.specs.Decimal.{Decimal}
@@ -13,7 +13,7 @@ use Rattle.ijson_json.proofs.grammar.StringBodies.{all_escaped_is}
 pub spaced : (P : List ℕ → Type 0) (text : List ℕ) → P text → Spaced P text
 spaced P text p = ([], text, [], tt, p, tt, sym (append-nil text))
 
--- a quoted text is a string for it
+-- `quoted s` is a JSON string that spells `s`
 pub quoted_is : (s : List ℕ) → IsString s (quoted s)
 quoted_is s = (all_escaped s, all_escaped_is s, refl)
 
@@ -50,7 +50,7 @@ mutual
   kept_member_shapes no_members = refl
   kept_member_shapes (member k t more) = ap₂ (member k) (kept_shapes t) (kept_member_shapes more)
 
--- if the text of each number spells the number in its shape, the text of a tree does
+-- if `num n` spells `shape n` for each number `n`, then `text_by num t` spells `reshaped shape t` for each well-formed tree `t`
 module _ (num : Decimal → List ℕ) (shape : Decimal → Decimal)
     (number_spelled : (n : Decimal) → IsNum n → IsValue (number (shape n)) (num n)) where
   as_spaced : (t : Tree) → IsValue (reshaped shape t) (text_by num t) → Spaced (λ value. IsValue (reshaped shape t) value) (text_by num t)

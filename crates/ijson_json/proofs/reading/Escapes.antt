@@ -1,4 +1,4 @@
--- Leading escapes of a text: digits, four of them, one escape or a pair of two.
+-- Leading escapes of a text: a hexadecimal digit, four hexadecimal digits, one escape, a surrogate pair.
 use Rattle.std.proofs.Common.{◌≡◌, ℕ, ◌+◌, ◌*◌, ◌<◌, ◌≤◌, false, cond, List, [], ◌∷◌, ◌++◌, length, get_or, drop, Option, Some, None, refl, sym}
 use Rattle.std.proofs.Common.{ap, ◌∙◌, append_assoc, arith, inl, inr}
 use Rattle.std.specs.Prelude.{IsTrue, ◌||◌, ◌==◌, ◌⊎◌, ◌≢◌, nat_lt}
@@ -16,7 +16,7 @@ use Rattle.ijson_json.proofs.grammar.StringBodies.{four_digits, hex_same}
 
 -- ---- the start of a text
 
--- the result of `strip_prefix`
+-- if `strip_prefix` returns `rest`, the text is `prefix ++ rest`
 pub strips_text : (prefix text rest : List ℕ) → StripsPrefix (FindsTextPrefix prefix) text rest → text ≡ prefix ++ rest
 strips_text prefix text rest (n, at, e, f) = at.1 ∙ ap (λ (l : List ℕ). prefix ++ l) (sym e)
 
@@ -31,12 +31,12 @@ meaning_of b =
     cond ((b == 34) || ((b == 92) || (b == 47))) b
     (cond (b == 98) 8 (cond (b == 102) 12 (cond (b == 110) 10 (cond (b == 114) 13 (cond (b == 116) 9 46)))))
 
--- a byte other than a full stop is the one that the letter denotes, and ASCII
+-- if `meaning_of b` is not a full stop, the letter `b` denotes it, and it is ASCII
 pub meaning_found : (b : ℕ) → meaning_of b ≢ 46 → (short_escape b ≡ Some (meaning_of b)) × (meaning_of b < 128)
 unfolding short_escape
 meaning_found b h = (grind (arith, nat_tests), grind (arith, nat_tests))
 
--- a full stop means that the letter denotes none
+-- if `meaning_of b` is a full stop, the letter `b` denotes no byte
 pub meaning_none : (b : ℕ) → meaning_of b ≡ 46 → short_escape b ≡ None
 unfolding short_escape
 meaning_none b h = grind (arith, nat_tests)
@@ -48,7 +48,7 @@ pub digit_small : (b d : ℕ) → hex_digit b ≡ Some d → (d < 16) × (b < 12
 unfolding hex_digit
 digit_small b d h = (grind (arith, nat_tests), grind (arith, nat_tests))
 
--- a value that does not exceed four digits is that of a digit
+-- a code below 65536 is the value of a hexadecimal digit
 pub code_digit : (o : Option ℕ) (v : ℕ) → v ≡ hex_code o → v < 65536 → o ≡ Some v
 code_digit (Some d) v is less = ap Some (sym is)
 code_digit None v is less = absurd (omega arith)
@@ -121,11 +121,11 @@ unit_cases text m rest (w, c, e) = go c e
       low = k;
     })
 
--- without four digits there is no character
+-- a `\u` without four hexadecimal digits after it begins no character
 pub no_unicode : (text : List ℕ) → NoHex text → NoCharacter (92 ∷ 117 ∷ text)
 no_unicode text n m rest a = elim (unit_cases text m rest a) [ inl o ↦ n o.u rest o.hex | inr b ↦ n b.u (92 ∷ 117 ∷ (b.l ++ rest)) b.hex ]
 
--- four leading digits have one value
+-- four leading hexadecimal digits have only one value
 hex_at_same : (text : List ℕ) (u v : ℕ) (r s : List ℕ) → HexAt text u r → HexAt text v s → (u ≡ v) × (r ≡ s)
 hex_at_same text u v r s (h, x, e) (l, y, f) = let same = hex_same h l u v r s x y (sym e ∙ f) in (same.0, same.1.1)
 
@@ -156,7 +156,7 @@ pub found_both : (text : List ℕ) (u : ℕ) (rest m other : List ℕ) → HexAt
 found_both text u rest m other (h, x, e) i (l, v, y, j, f, g) =
     rw g (92 ∷ 117 ∷ (h ++ 92 ∷ 117 ∷ l), pair x i y j, rw (e, f) (simp append_assoc))
 
--- without four digits there is no low surrogate
+-- a `\u` without four hexadecimal digits after it is not a low surrogate
 pub no_low_hex : (text behind : List ℕ) → text ≡ 92 ∷ 117 ∷ behind → NoHex behind → NoLow text
 no_low_hex text behind e n l v rest h i f = n v rest (l, h, tails _ _ _ _ (tails _ _ _ _ (sym e ∙ f)))
 

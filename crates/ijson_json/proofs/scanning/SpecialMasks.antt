@@ -27,7 +27,7 @@ special b = not (is_unescaped b)
 abbrev lane : ℕ → ℕ
 lane b = bit_or (bit_or (lit (eqb b 34)) (lit (eqb b 92))) (lit (ltb b 32))
 
--- its high bit is that of any of its tests
+-- the high bit of the union is set exactly if any of the tests is true
 three : (quote slash low : Bool) → top 7 (bit_or (bit_or (lit quote) (lit slash)) (lit low)) ≡ not (not low && (not quote && not slash))
 three true true true = refl
 three true false true = refl
@@ -53,12 +53,12 @@ specials_mask v n long short =
     lanes_mask lane special lane_is v _ (omega arith)
     (zip2_of_maps bit_or _ _ v (zip2_of_maps bit_or _ _ v (equal 34) (equal 92)) (zip2_splat (λ a b. lit (ltb a b)) v n 32 long))
 
--- a mask without its lowest bit is that of the other bytes
+-- removing the lowest bit of a mask leaves the mask of the other bytes
 bit_above : (b : Bool) (m : ℕ) → (cond b 1 0 + 2 * m) / 2 ^ 1 ≡ m
 bit_above true m = omega arith
 bit_above false m = omega arith
 
--- a mask without its k lowest bits is that of the lanes after the first k
+-- removing the `k` lowest bits of a mask leaves the mask of the lanes after the first `k`
 mask_dropped : (ms : List Bool) (k : ℕ) → mask_l ms / 2 ^ k ≡ mask_l (drop k ms)
 mask_dropped ms zero = div-one (mask_l ms)
 mask_dropped [] (suc k) = omega (arith, div-le_self 0 (2 ^ suc k))
@@ -66,7 +66,7 @@ mask_dropped (b ∷ ms) (suc k) =
     ap (λ j. (cond b 1 0 + 2 * mask_l ms) / 2 ^ j) (omega arith) ∙ sym (shr-shr (cond b 1 0 + 2 * mask_l ms) 1 k)
     ∙ ap (λ m. m / 2 ^ k) (bit_above b (mask_l ms)) ∙ mask_dropped ms k
 
--- the mask of two concatenated texts
+-- the mask of two concatenated texts is the mask of the first with the mask of the second above it
 mask_joined : (xs ys : List ℕ) → mask_l (map special (xs ++ ys)) ≡ mask_l (map special xs) + 2 ^ length xs * mask_l (map special ys)
 mask_joined [] ys = omega arith
 mask_joined (x ∷ xs) ys = rw (mask_joined xs ys, pow-suc 2 (length xs)) (omega arith)
@@ -75,23 +75,23 @@ mask_joined (x ∷ xs) ys = rw (mask_joined xs ys, pow-suc 2 (length xs)) (omega
 mask_below : (xs : List ℕ) (n : ℕ) → length xs ≡ n → mask_l (map special xs) < 2 ^ n
 mask_below xs n long = omega (arith, mask_l-lt (map special xs), ap (λ k. 2 ^ k) (length-map xs special ∙ long))
 
--- a bit after the mask of some bytes is that of a quote after them
+-- appending a quote to `xs` sets the bit after the mask of `xs`
 quote_marked : (xs : List ℕ) → mask_l (map special (xs ++ 34 ∷ [])) ≡ mask_l (map special xs) + 2 ^ length xs
 quote_marked xs = mask_joined xs (34 ∷ []) ∙ omega arith
 
--- a mask with a bit after it
+-- setting bit `n` of the mask of `n` bytes adds 2^n
 pub end_marked : (v : List ℕ) (n : ℕ) → length v ≡ n → n < 64
     → bit_or (mask_l (map (λ b. not (is_unescaped b)) v)) (1 * 2 ^ n % 2 ^ 64) ≡ mask_l (map (λ b. not (is_unescaped b)) v) + 2 ^ n
 end_marked v n long short =
     let m = mask_l (map special v) in
     ap (bit_or m) (one_shl n 64 short ∙ sym (one-mul (2 ^ n))) ∙ or_shifted_r 1 n m (mask_below v n long) ∙ omega arith
 
--- a quote after the bytes ends their run at their end
+-- appending a quote keeps the length of the run of unescaped bytes
 run_before_quote : (xs : List ℕ) → prefix_len is_unescaped (xs ++ 34 ∷ []) ≡ prefix_len is_unescaped xs
 run_before_quote [] = refl
 run_before_quote (x ∷ xs) = ap (λ n. cond (is_unescaped x) (1 + n) 0) (run_before_quote xs)
 
--- if a quote follows the bytes, the lowest bit from an index on is the end of the run from there
+-- if a quote follows the bytes, the lowest bit from `start` on gives the length of the run from `start`
 run_to_quote : (d : List ℕ) (start : ℕ) → start ≤ length d → length d < start + 64
     → count_trailing_zeros 64 (mask_l (map special (d ++ 34 ∷ [])) / 2 ^ start) ≡ prefix_len is_unescaped (drop start d)
 run_to_quote d start inside short =
@@ -103,7 +103,7 @@ run_to_quote d start inside short =
     ∙ trailing_mask_l special 64 (left ++ 34 ∷ []) (omega (arith, length-append left (34 ∷ []), length-drop start d)) some
     ∙ run_twice is_unescaped (left ++ 34 ∷ []) ∙ run_before_quote left
 
--- the mask of the last n bytes with a bit after it is that of these bytes and a quote
+-- the mask of the last `n` bytes with bit `n` set is the mask of these bytes and a quote
 last_marked : (d : List ℕ) (n found : ℕ) → n ≤ length d
     → found ≡ mask_l (map (λ b. not (is_unescaped b)) (chunk (length d - n) n d)) + 2 ^ n
     → found ≡ mask_l (map special (drop (length d - n) d ++ 34 ∷ []))
@@ -112,7 +112,7 @@ last_marked d n found room is =
     let long : length last ≡ n = omega (arith, length-drop (length d - n) d) in
     is ∙ ap₂ ◌+◌ (ap (λ l. mask_l (map special l)) (take_all n last (omega arith))) (ap (λ k. 2 ^ k) (sym long)) ∙ sym (quote_marked last)
 
--- it gives the end of the run from an index among these bytes
+-- the mask of the last `n` bytes with bit `n` set gives the length of the run from `at`
 pub run_in_last : (d : List ℕ) (n at found : ℕ) → n < 64 → n ≤ length d → at ≤ length d → length d ≤ at + n
     → found ≡ mask_l (map (λ b. not (is_unescaped b)) (chunk (length d - n) n d)) + 2 ^ n
     → count_trailing_zeros 64 (found / 2 ^ (at - (length d - n))) ≡ prefix_len is_unescaped (drop at d)
@@ -123,14 +123,14 @@ run_in_last d n at found short room inside few is =
     ∙ run_to_quote (drop first d) (at - first) (omega arith) (omega arith)
     ∙ ap (prefix_len is_unescaped) (drop-drop (at - first) first d ∙ ap (λ k. drop k d) (omega arith))
 
--- the mask of the first k + j bytes is that of k of them, and above it that of the others
+-- the mask of the first `k + j` bytes is the mask of the first `k` with the mask of the next `j` above it
 first_masks : (d : List ℕ) (k j : ℕ) → k ≤ length d
     → mask_l (map special (take (k + j) d)) ≡ mask_l (map special (take k d)) + 2 ^ k * mask_l (map special (take j (drop k d)))
 first_masks d k j inside =
     ap (λ l. mask_l (map special l)) (take-add k j d) ∙ mask_joined (take k d) (take j (drop k d))
     ∙ ap (λ n. mask_l (map special (take k d)) + 2 ^ n * mask_l (map special (take j (drop k d)))) (length-take-le k d inside)
 
--- the mask of all bytes and a quote is that of the first k, and above it that of the others
+-- the mask of all bytes and a quote is the mask of the first `k` bytes with the mask of the rest above it
 quoted_masks : (d : List ℕ) (k : ℕ) → k ≤ length d
     → mask_l (map special (d ++ 34 ∷ [])) ≡ mask_l (map special (take k d)) + 2 ^ k * mask_l (map special (drop k d ++ 34 ∷ []))
 quoted_masks d k inside =
@@ -158,7 +158,7 @@ overlapping k j low mid high small inner =
     ap₂ bit_or none all ∙ or_block j 0 high mid mid inner inner ∙ ap (λ n. high * 2 ^ j + n) (or_self mid) ∙ sym all in
     ap₂ bit_or first last ∙ or_block k mid behind low 0 small (pow_pos k) ∙ ap₂ (λ m n. m * 2 ^ k + n) same (or_zero_r low) ∙ omega arith
 
--- the masks of the first n bytes and of the last n with a bit after them form that of all and a quote
+-- the masks of the first and of the last `n` bytes, the last with bit `n` set, together are the mask of all bytes and a quote
 all_marked : (d : List ℕ) (n first behind : ℕ) → n < 32 → n ≤ length d → length d ≤ 2 * n
     → first ≡ mask_l (map (λ b. not (is_unescaped b)) (chunk 0 n d))
     → behind ≡ mask_l (map (λ b. not (is_unescaped b)) (chunk (length d - n) n d)) + 2 ^ n
@@ -184,7 +184,7 @@ all_marked d n first behind short room few is is_behind =
     (mask_below (take j last) j (length-take-le j last inner))
     ∙ ap (λ b. low + 2 ^ k * b) (sym back) ∙ sym whole
 
--- and so they give the end of the run from an index
+-- the masks of the first and of the last `n` bytes together give the length of the run from `start`
 pub run_in_two : (d : List ℕ) (n first behind start : ℕ) → n < 32 → n ≤ length d → length d ≤ 2 * n → start ≤ length d
     → first ≡ mask_l (map (λ b. not (is_unescaped b)) (chunk 0 n d))
     → behind ≡ mask_l (map (λ b. not (is_unescaped b)) (chunk (length d - n) n d)) + 2 ^ n

@@ -15,7 +15,7 @@ pub record ScalarRead (text : List ℕ) (cache : Texts) (value : WellFormed) (re
   pub read : (opened : ℕ) → opened ≤ max_depth → ReadAs opened text value.tree rest
   pub shared : AreShared cache value.tree
 
--- the value and the text after it, or why there is none, and the strings in the cache
+-- `result` is the leading scalar and the rest of the text, or the fault; the cache gains only strings of the text
 pub record ReadsScalar (text : List ℕ) (result : Result (WellFormed × Bor (List ℕ)) Fault)
     (old new : Texts) : Type 0 where
   pub cache : AddsOnlyRead text old new

@@ -18,7 +18,7 @@ pub record ValueRead (opened : ℕ) (text : List ℕ) (cache : Texts) (old new :
   pub values : new.values.items ≡ old.values.items
   pub members : new.members.items ≡ old.members.items
 
--- the value and the text after it, or why there is none, and the strings in the cache
+-- `result` is the leading value and the rest of the text, or the fault; the cache gains only strings of the text
 pub record ReadsValue (opened : ℕ) (text : List ℕ) (result : Result (WellFormed × Bor (List ℕ)) Fault)
     (old new : Texts) (before after : Scratch) : Type 0 where
   pub cache : AddsOnlyRead text old new

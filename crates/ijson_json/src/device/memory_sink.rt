@@ -34,10 +34,10 @@ impl Model for MemorySink {
 }
 
 impl MemorySink {
-    /// Creates a sink with capacity for `fail_at` bytes.
+    /// Creates a sink that stores up to `fail_at` bytes, at most `piece` per call.
     ///
-    /// A call that would exceed it stops there, and each later call with a byte fails. The capacity is allocated here, so that `write` does
-    /// not allocate. `piece` must be at least 1.
+    /// `piece` must be at least 1. Once `fail_at` bytes are stored, each write of a non-empty slice fails. The capacity for all of them is
+    /// allocated here, so that `write` does not allocate.
     ///
     /// # Errors
     ///

@@ -33,10 +33,10 @@ impl<'a> Model for MemorySource<'a> {
 }
 
 impl<'a> MemorySource<'a> {
-    /// Creates a source of `bytes`.
+    /// Creates a source of `bytes` that returns at most `piece` bytes per call.
     ///
-    /// A call that would exceed the first `fail_at` bytes stops there, and each later call fails, even one that would report the end. If
-    /// `fail_at` is `usize::MAX`, no call fails. `piece` must be at least 1.
+    /// `piece` must be at least 1. Once `fail_at` bytes are returned, each call fails, even at the end of `bytes`. If `fail_at` is
+    /// `usize::MAX`, no call fails.
     pub fn new(bytes: &'a [u8], piece: usize, fail_at: usize) -> MemorySource<'a>
         requires { 0 < piece }
         ensures { result ≡ record {

@@ -1,4 +1,4 @@
-//! A sink for a writer of the standard library. It knows the bytes that the writer knows.
+//! A sink that writes to a `std::io::Write`. In contracts, the bytes received are the contents of the writer, if known.
 ghost use Rattle.std.specs.Prelude.{◌≡◌, ◌+◌, ◌^◌, ◌<◌, OnOk, OnErr};
 ghost use Rattle.std.specs.Io.KnownBytes.{Keeps};
 
@@ -8,8 +8,8 @@ use std::marker::Model;
 
 /// A sink that writes to a writer.
 ///
-/// Any error is a fault, and so is a write that accepts none of some bytes. Does not allocate. Each call is one write of the writer;
-/// only `flush` flushes it.
+/// Any error is a fault, and so is a write of a non-empty slice that accepts no byte. Does not allocate. Each call is one write of the
+/// writer; only `flush` flushes the writer.
 #[derive(Drop)]
 pub struct StreamSink<W> {
     inner: W,

@@ -1,4 +1,4 @@
-//! A source for a reader of the standard library. It knows the bytes that the reader knows.
+//! A source that reads from a `std::io::Read`. In contracts, its remaining bytes are those of the reader, if known.
 ghost use Rattle.std.specs.Prelude.{◌≡◌};
 
 use crate::device::{DeviceFault, Source};

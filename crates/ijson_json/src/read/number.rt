@@ -29,7 +29,7 @@ fn stops(text: &str) -> bool
     text.is_empty() || text.as_bytes()[0] == b',' || !in_number(text.as_bytes()[0])
 }
 
-/// Reads the leading number. One beyond the limit fails at its first byte, whatever follows it.
+/// Reads the leading number. If the number is out of range, the error is at its first byte, whatever follows.
 #[inline(always)]
 pub(crate) fn read_number(alloc: Global, text: &str) -> Result<(INumber, &str), Fault>
     ensures { MatchResult result

@@ -46,9 +46,10 @@ pub(crate) fn push_read<'a, T: Drop>(
     read_delimiter(after, closing)
 }
 
-/// Pops the entries from index `base` on.
+/// Pops the elements from index `base` on.
 ///
-/// If these are the whole stack and many, they are not copied but keep the capacity of the stack.
+/// If `base` is 0 and the stack has more than 64 elements, copies none: returns the list of the stack, with its capacity, and leaves an
+/// empty list.
 fn take_from<T: Drop>(alloc: Global, stack: &mut Vec<T>, base: usize) -> Result<Vec<T>, AllocError>
     requires { base ≤ length stack.old.items }
     ensures taken { IfOk result (λ taken. taken.items ≡ drop base stack.old.items) }

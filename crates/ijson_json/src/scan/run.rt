@@ -58,10 +58,10 @@ fn run_end_in_two<const N: usize>(bytes: &[u8], start: usize) -> usize
     start + (found >> start).trailing_zeros() as usize
 }
 
-/// Returns the end of the run from `start`, if fewer than 16 bytes are left.
+/// Returns the end of the run from `start`.
 ///
-/// If there are at least 16 bytes in all, the last 16 are tested, and bits before `start` are shifted out. Bytes are tested one by one only
-/// if there are fewer than 4.
+/// Fewer than 16 bytes must be left. Of 16 bytes or more in all, tests the last 16 and shifts out the bits before `start`; of 4 to 15
+/// bytes, tests two overlapping vectors; of fewer, tests each byte.
 #[tactic(auto, using(crate::proofs::scanning::SpecialMasks::run_in_last))]
 fn last_run_end(bytes: &[u8], start: usize) -> usize
     requires { (start ≤ length bytes.now) × (length bytes.now < start + 16) }

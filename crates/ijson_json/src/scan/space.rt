@@ -45,7 +45,7 @@ pub(crate) fn skip_space(text: &str) -> &str
     }
 }
 
-/// Like `skip_space`, for white space of possibly more than two bytes.
+/// Like `skip_space`, but tests 16 bytes at a time. `skip_space` calls it after two bytes of white space.
 #[tactic(auto, using(crate::proofs::scanning::WhiteSpace::run_skipped, crate::proofs::scanning::WhiteSpace::space_boundary))]
 #[inline(never)]
 fn skip_indent(text: &str) -> &str

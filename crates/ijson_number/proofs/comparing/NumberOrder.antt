@@ -16,7 +16,7 @@ use Rattle.ijson_number.proofs.parsing.Denotes.{stripped_mod}
 use Rattle.ijson_number.proofs.storing.FormNumbers.{digits_case, tens_out_is}
 use Rattle.ijson_number.proofs.storing.IntegerWords.{zero_is as no_digits}
 
--- equal digits decide nothing
+-- if the digits at `i` are equal, the digits after `i` decide
 pub same_digit : (ds es : List ℕ) (i x y : ℕ) → i < length ds → i < length es → x ≡ get_or ds i 0 → y ≡ get_or es i 0 → x ≡ y
     → slice_cmp nat_cmp (drop i ds) (drop i es) ≡ slice_cmp nat_cmp (drop (i + 1) ds) (drop (i + 1) es)
 same_digit ds es i x y h g p q e =
@@ -88,7 +88,7 @@ apart : (x y : ℤ) (s t : Ordering) → s ≡ int_cmp x (pos 0) → t ≡ int_c
     → nat_cmp (ordering_index s) (ordering_index t) ≡ int_cmp x y
 apart x y s t p q n = grind (arith, ints, nat_tests)
 
--- if the signs differ, they decide
+-- if the signs differ, the order of the numbers is the order of the signs
 pub signs_cmp : (a b : Decimal) (s t : Ordering) → s ≡ int_cmp a.mantissa (pos 0) → t ≡ int_cmp b.mantissa (pos 0) → (s ≡ t → ⊥)
     → nat_cmp (ordering_index s) (ordering_index t) ≡ number_cmp a b
 signs_cmp a b s t p q n =
@@ -97,13 +97,13 @@ signs_cmp a b s t p q n =
     apart (at_exponent c a) (at_exponent c b) s t (p ∙ scaled a.mantissa (nat_abs (a.exponent -ℤ c)))
     (q ∙ scaled b.mantissa (nat_abs (b.exponent -ℤ c))) n
 
--- two numbers of one sign
+-- two numbers with the same sign
 module _ (a b : Num) (s t : Ordering) (p : s ≡ int_cmp a.decimal.mantissa (pos 0)) (q : t ≡ int_cmp b.decimal.mantissa (pos 0))
     (same : s ≡ t) where
   other : (sign : Ordering) → s ≡ sign → int_cmp b.decimal.mantissa (pos 0) ≡ sign
   other sign is = sym q ∙ sym same ∙ is
 
-  -- are compared by their digits with that sign:
+  -- two numbers of the same sign compare as their canonical digits with that sign
   same_sign : (minus : Bool) → int_lt a.decimal.mantissa (pos 0) ≡ minus → int_lt b.decimal.mantissa (pos 0) ≡ minus
       → number_cmp (stored_number minus (stripped_digits a.decimal) a.decimal.exponent a.decimal.point)
       (stored_number minus (stripped_digits b.decimal) b.decimal.exponent b.decimal.point) ≡ number_cmp a.decimal b.decimal
@@ -112,13 +112,13 @@ module _ (a b : Num) (s t : Ordering) (p : s ≡ int_cmp a.decimal.mantissa (pos
       (stored_number t (stripped_digits b.decimal) b.decimal.exponent b.decimal.point)) (sym h) (sym g)
       ∙ ap₂ number_cmp (digits_case a.decimal a.is_num.plain) (digits_case b.decimal b.is_num.plain)
 
-  -- if negative, in the reverse order of their absolute values,
+  -- negative numbers compare in the reverse order of their magnitudes
   pub below_zero_is : s ≡ Less → magnitude_cmp b.decimal a.decimal ≡ number_cmp a.decimal b.decimal
   below_zero_is is =
       sym (flipped (stripped_digits a.decimal) (stripped_digits b.decimal) a.decimal.exponent b.decimal.exponent)
       ∙ same_sign true (grind (arith, ints)) (grind (arith, ints))
 
-  -- if positive, in their order,
+  -- positive numbers compare in the order of their magnitudes
   pub above_zero_is : s ≡ Greater → magnitude_cmp a.decimal b.decimal ≡ number_cmp a.decimal b.decimal
   above_zero_is is = same_sign false (grind (arith, ints)) (grind (arith, ints))
 
@@ -127,7 +127,7 @@ module _ (a b : Num) (s t : Ordering) (p : s ≡ int_cmp a.decimal.mantissa (pos
   zeros_cmp is =
       rw (cmp_equal a.decimal.mantissa (pos 0) (sym p ∙ is), cmp_equal b.decimal.mantissa (pos 0) (other Equal is)) (grind (arith, ints))
 
--- two signs are equal if their indices are
+-- two signs are equal if their indices are equal
 pub tests_same : (s t : Ordering) (r : Bool) → r ≡ not (ordering_index s == ordering_index t) → r ≡ false → s ≡ t
 tests_same s t r e h = grind (arith, nat_tests)
 

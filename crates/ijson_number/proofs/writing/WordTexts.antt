@@ -73,7 +73,7 @@ module _ (magnitude : ℕ) (some : 0 < magnitude) (small : magnitude < 2 ^ 64) w
     pub fraction_is : point_text ds place ≡ decimal whole ++ 46 ∷ last_digits k fraction
     fraction_is = elim (cases_lt 0 whole) [ inl above ↦ between_digits above | inr none ↦ before_digits (omega arith) ]
 
--- a whole number, whose trailing zeros are stripped
+-- an integer `z` with a magnitude below 2^64; `kept` is its digits without trailing zeros
 module _ (z : ℤ) (word : nat_abs z < 2 ^ 64) where
   abbrev magnitude : ℕ
   magnitude = nat_abs z
@@ -129,7 +129,7 @@ module _ (z : ℤ) (word : nat_abs z < 2 ^ 64) where
         let zeros : nat_abs (place -ℤ pos (length kept)) ≡ out.1 = omega (arith, ints) in
         rw (plain, float_text, first, second, point_text, zeros, last_zeros 1) (ap (λ x. x ++ (46 ∷ 48 ∷ [])) with_zeros)
 
-  -- without a decimal point
+  -- without a decimal point, the text of `z` is the text of an integer
   pub integer_num_text : num_text (stripped_number z (pos 0) false) ≡ integer_text negative magnitude
   integer_num_text =
       elim (zero_or_not z) [
@@ -137,7 +137,7 @@ module _ (z : ℤ) (word : nat_abs z < 2 ^ 64) where
         | inr some ↦ stored_is some false ∙ ap (λ x. minus_text negative ++ x) (with_zeros some)
       ]
 
-  -- with a decimal point
+  -- with a decimal point, the text of `z` is the text of an integer and `.0`
   pub whole_num_text : num_text (stripped_number z (pos 0) true) ≡ pointed_text negative magnitude 1 0
   whole_num_text =
       elim (zero_or_not z) [
@@ -176,7 +176,7 @@ either_form : (b : Bool) (x y f : FormOf) → (let r : FormOf = elim b [ true �
 either_form true x y f e = inl (refl, e)
 either_form false x y f e = inr e
 
--- no whole number is packed with a negative exponent
+-- `smallest_packed` never returns a negative exponent
 not_smallest : (tries k : ℕ) (n : Decimal) (m e : ℤ) → e <ℤ pos 0 → smallest_packed tries k n ≡ packed m e true → ⊥
 not_smallest zero k n m e h is = cc
 not_smallest (suc tries) k n m e h is =
@@ -309,7 +309,7 @@ below_one_shown n p is some place front not_scientific =
     (rw (before, point_text) at (float_shape_is false n.point n.digits.now n.exponent p is place not_scientific))
     ∙ stored_text n.negative n.digits.now n.exponent n.point n.stripped.stripped some
 
--- the text of a whole number as std writes it, by its sign
+-- `integer_text` is the text of an integer as std writes it
 signed_is : (z : ℤ) → integer_text (int_lt z (pos 0)) (nat_abs z) ≡ signed_decimal z
 signed_is (pos n) = rw (not_lt (pos n) (pos 0) (omega (arith, ints))) refl
 signed_is (negsuc n) = refl

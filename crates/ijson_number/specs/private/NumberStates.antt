@@ -18,7 +18,7 @@ pub data State : Type 0 where
 abbrev pub is_letter : ℕ → Bool
 is_letter b = (b == 101) || (b == 69)
 
--- the state after one more byte, if a number goes on with it
+-- the state after one more byte, if a number can continue with that byte
 abbrev pub next : State → ℕ → Option State
 next start b = cond (b == 45) (Some minus) (cond (b == 48) (Some zero_digit) (cond (is_digit b) (Some whole_digit) None))
 next minus b = cond (b == 48) (Some zero_digit) (cond (is_digit b) (Some whole_digit) None)
@@ -56,7 +56,7 @@ abbrev pub IsStuck : State → List ℕ → Type 0
 IsStuck s [] = ⊤
 IsStuck s (b ∷ bs) = next s b ≡ None
 
--- the bytes lead from state `s` to state `at`, and no number goes on with the text after them
+-- `bytes` lead from state `s` to state `at`, and `rest` is empty or begins with a byte that cannot continue the number
 pub record Halts (s : State) (bytes rest : List ℕ) : Type 0 where
   pub at : State
   pub runs : after (Some s) bytes ≡ Some at

@@ -14,6 +14,7 @@ pub record Table : Type 0 where
 abbrev pub no_table : Table
 no_table = record { keys = []; buckets = 0; followers = no_followers }
 
--- the number of buckets once a string can be added: twice `buckets` and at least 16, if there are four strings for each
+-- the number of buckets before a string is added: `buckets` if there are fewer than four strings per bucket, otherwise `2 * buckets`,
+-- at least 16
 abbrev pub buckets_for : ℕ → ℕ → ℕ
 buckets_for texts buckets = if nat_lt texts (4 * buckets) then buckets else max 16 (2 * buckets)

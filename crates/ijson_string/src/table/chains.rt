@@ -116,9 +116,9 @@ fn bucket_index(hash: u32, count: usize) -> usize
     ((u64::from(hash) * count as u64) >> 32) as usize
 }
 
-/// Returns the bits of a hash in the filter of its bucket, from its 15 lower bits.
+/// Returns the mask of up to three bits that a hash sets in the filter of its bucket.
 ///
-/// The upper bits select the bucket.
+/// The lower 15 bits of the hash select them; its upper bits select the bucket.
 #[tactic(auto, unfolding(crate::specs::private::Filters::filter_of))]
 fn filter_bits(hash: u32) -> u32
     ensures { result ≡ filter_of hash }

@@ -27,9 +27,9 @@ const NONE: Follower = Follower {
 #[derive(Drop)]
 pub(crate) struct Followers {
     slots: [Follower; FOLLOWER_SLOTS],
-    /// The index of the current string: the one that was found last.
+    /// The index of the current string: the string that was found last.
     last: u32,
-    /// The content of its slot.
+    /// The content of the slot of `last`: the guess for the next string.
     pub(super) next: Follower,
 }
 

@@ -25,7 +25,7 @@ pub onward-zero : (n p : ℕ) → p < n → onward n p 0 ≡ p
 unfolding onward
 onward-zero n p h = grind (arith, nat_tests)
 
--- the slot after a slot is one step further on
+-- the slot after the slot `k` slots after `p` is `k + 1` slots after `p`
 pub after-onward : (n p k : ℕ) → p < n → k < n → after n (onward n p k) ≡ onward n p (k + 1)
 unfolding after onward
 after-onward n p k h j = grind (arith, nat_tests)
@@ -55,12 +55,12 @@ pub distance-rest : (n h m q : ℕ) → h < n → q < n → m < n → m ≤ dist
 unfolding distance onward
 distance-rest n h m q a b c d = grind (arith, nat_tests)
 
--- the next slot is one further from home, unless it is home
+-- unless the next slot is `h`, it is one slot further from `h`
 pub distance-after : (n h p : ℕ) → h < n → p < n → distance n h p + 1 < n → distance n h (after n p) ≡ distance n h p + 1
 unfolding distance after
 distance-after n h p a b c = grind (arith, nat_tests)
 
--- if the next slot is not home, it is one further from home
+-- if the next slot is not `h`, it is one slot further from `h`
 pub distance-back : (n h p : ℕ) → h < n → p < n → 0 < distance n h (after n p) → distance n h p + 1 ≡ distance n h (after n p)
 unfolding distance after
 distance-back n h p a b c = grind (arith, nat_tests)
@@ -82,12 +82,12 @@ pub round : (n e p : ℕ) → e < n → p < n → onward n p (n - distance n e p
 unfolding onward distance
 round n e p a b = grind (arith, nat_tests)
 
--- from t steps back, the slot is t steps on
+-- the distance to `p` from the slot `t` slots before `p` is `t`
 pub distance-round : (n p t : ℕ) → p < n → t < n → distance n (onward n p (n - t)) p ≡ t
 unfolding onward distance
 distance-round n p t a b = grind (arith, nat_tests)
 
--- j steps on from t steps back is t - j steps back
+-- the slot `j` slots after the slot `t` slots before `p` is the slot `t - j` slots before `p`
 pub onward-round : (n p t j : ℕ) → p < n → t < n → j ≤ t → onward n (onward n p (n - t)) j ≡ onward n p (n - (t - j))
 unfolding onward
 onward-round n p t j a b c = grind (arith, nat_tests)

@@ -100,7 +100,7 @@ module _ (n : ℕ) (sorted : List HashedIndex) (room : length sorted ≤ n) (key
       let near : at k < h k + n = omega (arith, split k lk, room, upper h w (h k) 0 k (omega arith) (λ j lj. h-ascends j k lj lk)) in
       grind (arith, nat_tests, h-below k lk, near)
 
-  -- an entry that is not at home
+  -- if entry `k` is not in its home slot, the previous slot has an entry, and `k` is displaced at most one slot further
   previous : (k : ℕ) → k < m → at k ≢ h k → (i : ℕ) × (i < m) × (after n (place n sorted i) ≡ place n sorted k) × (at k + h i ≤ at i + 1 + h k)
   unfolding wrapped after
   previous zero lk away =

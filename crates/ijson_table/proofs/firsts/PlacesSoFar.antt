@@ -31,7 +31,7 @@ pub record Turn {V : Type 0} (all pairs new : List (List ℕ × V)) (earlier pla
 
 module _ {V : Type 0} (all : List (List ℕ × V)) (earlier : List ℕ) (are : AreEarlier (keys_of all) earlier)
     (pairs new : List (List ℕ × V)) (places : List ℕ) (k n e : ℕ) (t : Turn all pairs new earlier places k n e) where
-  -- a number for each pair
+  -- `places` has one index for each pair
   count : length places ≡ length all
   count = omega (arith, t.so_far.count, are.count, keys-length all)
 
@@ -44,7 +44,7 @@ module _ {V : Type 0} (all : List (List ℕ × V)) (earlier : List ℕ) (are : A
   in_all : n < length all
   in_all = omega (arith, t.more, t.size)
 
-  -- the pair is the next of all
+  -- `pair` is pair `n` of `all`
   pair_is : pair ≡ get_or all n pair
   pair_is =
       pair_at.was ∙ (sym (at_drop_more (λ xs. get_or xs 0 pair) pairs n pair t.more)
@@ -59,11 +59,11 @@ module _ {V : Type 0} (all : List (List ℕ × V)) (earlier : List ℕ) (are : A
       (sym (get_or_read places n e (omega (arith, in_all, count)) t.read 0 ∙ t.so_far.rest n (omega arith)))
       (are.each n (omega (arith, in_all, keys-length all)))
 
-  -- the pair's key among the inserted keys
+  -- moving the pair keeps the index of its key among the inserted keys
   at_is : at (take k new) (get_or (keys_of new) k []) ≡ at (take k pairs) pair.0
   at_is = ap₂ at (moved_first pairs new k n t.so_far.within t.more t.moved) (next_key pairs new k n t.so_far.within t.more t.moved)
 
-  -- if it is its own index, they lack the key
+  -- if `e` is `n`, the inserted pairs lack the key
   lacks : e ≡ n → at (take k pairs) pair.0 ≡ None
   lacks own = elim earlier_is [
     | inl other ↦ absurd (omega (arith, own, other))

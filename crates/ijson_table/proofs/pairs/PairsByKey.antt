@@ -21,25 +21,25 @@ module _ {V : Type 0} where
   pub position_within : (pairs : List (List ℕ × V)) (key : List ℕ) (i : ℕ) → at pairs key ≡ Some i → i < length pairs
   position_within pairs key i e = let found = position-some (keys_of pairs) key i e in omega (arith, found.0, keys-length pairs)
 
-  -- the key of a pair that was read
+  -- the key of pair `i` is key `i`
   pub key_at : (pairs : List (List ℕ × V)) (i : ℕ) (pair : List ℕ × V) → i < length pairs
       → get_or (keys_of pairs) i [] ≡ (get_or pairs i pair).0
   key_at pairs i pair li = get_or-map (λ p. p.0) pairs i pair [] li
 
-  -- a pair read at an index of a list, which is seen as this one
+  -- pair `i` of a list is also read from an equal list
   pub slice_get-seen : (old seen : List (List ℕ × V)) (i : ℕ) (pair : List ℕ × V) → old ≡ seen → i < length seen → pair ≡ get_or old i pair
       → slice_get seen i ≡ Some pair
   slice_get-seen old seen i pair same li read =
       slice_get_read seen (length seen) i pair refl li (read ∙ ap (λ ps. get_or ps i pair) same)
 
-  -- a pair that was lent, with another value
+  -- setting entry `i` to its own key with `value` is `with_value`
   pub set-value : (pairs : List (List ℕ × V)) (i : ℕ) (pair : List ℕ × V) (value : V) → i < length pairs → pair ≡ get_or pairs i pair
       → set pairs i (pair.0, value) ≡ with_value pairs i value
   set-value [] i pair value li e = absurd (omega arith)
   set-value (p ∷ ps) zero pair value li e = ap (λ q. (q.0, value) ∷ ps) e
   set-value (p ∷ ps) (suc i) pair value li e = ap (λ l. p ∷ l) (set-value ps i pair value (omega arith) e)
 
-  -- another value keeps the keys distinct
+  -- setting the value of an entry keeps the keys distinct
   pub distinct_set : (pairs : List (List ℕ × V)) (i : ℕ) (pair : List ℕ × V) (value : V) → i < length pairs → pair ≡ get_or pairs i pair
       → IsDistinct (keys_of pairs) → IsDistinct (keys_of (set pairs i (pair.0, value)))
   distinct_set pairs i pair value li e d = subst IsDistinct
@@ -69,7 +69,7 @@ module _ {V : Type 0} where
       ap (λ x. take last (set (pair ∷ pairs) i x)) (get_or_default (pair ∷ pairs) last d pair (omega arith))
       ∙ sym (take-set-le last (set (pair ∷ pairs) i (get_or (pair ∷ pairs) last pair)) last (get_or (pair ∷ pairs) i pair) (omega arith))
 
-  -- the keys after one is removed and the last fills the gap
+  -- `swap_out` replaces key `i` with the last key, and drops the last
   pub keys-swap_out : (pairs : List (List ℕ × V)) (i : ℕ) → i < length pairs
       → keys_of (swap_out pairs i) ≡ take (length pairs - 1) (set (keys_of pairs) i (get_or (keys_of pairs) (length pairs - 1) []))
   keys-swap_out [] i li = absurd (omega arith)
@@ -117,7 +117,7 @@ module _ {V : Type 0} where
   lacks_pushed key [] pair l other = (other, tt)
   lacks_pushed key (p ∷ pairs) pair l other = (l.0, lacks_pushed key pairs pair l.1 other)
 
-  -- with a new key after them, keys are distinct
+  -- appending a missing key keeps the keys distinct
   pub distinct_pushed : (pairs : List (List ℕ × V)) (key : List ℕ) (value : V) → IsDistinct (keys_of pairs) → at pairs key ≡ None
       → IsDistinct (keys_of (pairs ++ (key, value) ∷ []))
   distinct_pushed [] key value d missing = (tt, tt)
@@ -133,7 +133,7 @@ module _ {V : Type 0} where
     | inr d ↦ simp d.0
   ]
 
-  -- the value at the index of a key is that of the key
+  -- a lookup of a key returns the value at the key's index
   pub lookup-position : (pairs : List (List ℕ × V)) (key : List ℕ) (i : ℕ) (pair : List ℕ × V) → at pairs key ≡ Some i → i < length pairs
       → pair ≡ get_or pairs i pair → lookup key pairs ≡ Some pair.1
   lookup-position [] key i pair e li is = cc

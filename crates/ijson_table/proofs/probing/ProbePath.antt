@@ -23,7 +23,7 @@ module _ (hashes : List ℕ) (slots : List (Option ℕ)) where
   unfolding displacement
   displacement-none p e = ap (displaced (length slots) hashes p) e
 
-  -- a displacement is that of a resident
+  -- if `o` has a positive displacement, it is a resident
   someone : (p : ℕ) (o : Option ℕ) → 0 < displaced (length slots) hashes p o → (i : ℕ) × (o ≡ Some i)
   someone p None h = absurd (omega (arith, h))
   someone p (Some i) h = (i, refl)
@@ -51,7 +51,7 @@ module _ (hashes : List ℕ) (slots : List (Option ℕ)) where
       after-onward (length slots) h m lh (omega arith) in
       omega (arith, ordered (onward (length slots) h m) here, ap (displacement hashes slots) next)
 
-  -- the slot k after an empty one is displaced by at most k
+  -- if slot `e` has displacement 0, the slot `k` slots after `e` has displacement at most `k`
   pub from_empty : IsOrdered hashes slots → (e : ℕ) → e < length slots → displacement hashes slots e ≡ 0
       → (k : ℕ) → k < length slots → displacement hashes slots (onward (length slots) e k) ≤ k
   from_empty ordered e le none zero lk = omega (arith, ap (displacement hashes slots) (onward-zero (length slots) e le))
@@ -84,7 +84,7 @@ passed_by hashes slots ordered i p m lp there ended =
       ])
     ]
 
--- the invariant at one index
+-- each index is in a slot
 pub placed_at : (hashes : List ℕ) (slots : List (Option ℕ)) → IsTable hashes slots → (i : ℕ) → i < length hashes
     → (p : ℕ) × (p < length slots) × (resident slots p ≡ Some i)
 placed_at hashes slots t i li =
@@ -105,7 +105,7 @@ in_list hashes slots t p i lp e =
     let some = times-some i slots p lp e in
     grind (arith, nat_tests, t.placed i, some)
 
--- the home slot of a key, by its hash
+-- the home slot of index `i` is the home slot of key `i`
 pub home-key : (hash : List ℕ → ℕ) (n : ℕ) (keys : List (List ℕ)) (i : ℕ) → i < length keys
     → home_at n (map hash keys) i ≡ home_of hash n (get_or keys i [])
 unfolding home_at

@@ -17,7 +17,7 @@ use Rattle.ijson_table.proofs.slots.KeptHashes.{kept-home}
 use Rattle.ijson_table.specs.declared.slot.Seen.{Seen}
 use Rattle.ijson_table.specs.declared.slot.Seen.TheVariants.{Empty, Resident}
 
--- the number of indices is that of slots
+-- `positions` has one value for each slot
 pub positions-length : (slots : List Slot) → length (positions slots) ≡ length slots
 positions-length slots = length-map slots position_in
 
@@ -25,17 +25,17 @@ positions-length slots = length-map slots position_in
 pub positions-set : (slots : List Slot) (p : ℕ) (slot : Slot) → positions (set slots p slot) ≡ set (positions slots) p (position_in slot)
 positions-set slots p slot = map-set position_in slots p slot
 
--- a slot written with a known index
+-- writing a slot with index `i` writes `Some i` to `positions`
 pub positions-put : (slots : List Slot) (p : ℕ) (slot : Slot) (i : ℕ) → position_in slot ≡ Some i
     → positions (set slots p slot) ≡ set (positions slots) p (Some i)
 positions-put slots p slot i at = positions-set slots p slot ∙ ap (set (positions slots) p) at
 
--- the value of a slot that was read
+-- the resident of slot `p` is the index in the slot that was read
 pub position-at : (slots : List Slot) (p : ℕ) (read : Option ℕ) → p < length slots → read ≡ position_in (get_or slots p blank)
     → resident (positions slots) p ≡ read
 position-at slots p read lp is = get_or-map position_in slots p blank None lp ∙ sym is
 
--- a stored slot that was read, as the slot that it represents
+-- a stored slot that was read represents the slot at `p`
 pub seen_at : {X : Type 0} (f : X → Slot) (slots : List X) (p : ℕ) (read : X) → p < length (map f slots) → read ≡ get_or slots p read
     → f read ≡ get_or (map f slots) p blank
 seen_at f slots p read lp is = ap f is ∙ sym (get_or-map f slots p read blank (omega (arith, lp, length-map slots f)))
@@ -44,7 +44,7 @@ seen_at f slots p read lp is = ap f is ∙ sym (get_or-map f slots p read blank 
 pub nothing_has_hash : (n : ℕ) (hashes : List ℕ) (slot : Slot) → position_in slot ≡ None → HasHash n hashes slot
 nothing_has_hash n hashes slot none i e = let bad : ◌≡◌ {A = Option ℕ} (Some i) None = sym e ∙ none in cc
 
--- the one index in the slot has this hash
+-- if a slot stores the kept hash of its index, it satisfies `HasHash`
 pub has_own_hash : (n : ℕ) (hashes : List ℕ) (slot : Slot) (i : ℕ) → position_in slot ≡ Some i → slot.hash ≡ kept n (get_or hashes i 0)
     → HasHash n hashes slot
 has_own_hash n hashes slot i at is k e =
@@ -72,23 +72,23 @@ module _ (n : ℕ) (hashes : List ℕ) where
       → d ≡ distance n (home_at n hashes i) p
   hash-distance p i d slot has at is = is ∙ ap (λ h. distance n h p) (hash-home i slot has at)
 
-  -- a slot is displaced by the stored hash as by the key
+  -- the stored hash and the key's hash give the same displacement
   displaced-by : (p code hash : ℕ) → HasHash n hashes (record { code = code; hash = hash })
       → displaced_by n p (record { code = code; hash = hash }) code ≡ displaced n hashes p
       (position_in (record { code = code; hash = hash }))
   displaced-by p zero hash has = refl
   displaced-by p (suc i) hash has = ap (λ h. distance n h p + 1) (hash-home i (record { code = suc i; hash = hash }) has refl)
 
-  -- empty slots have no hashes to differ
+  -- empty slots satisfy `HaveHashes`, for any hashes
   pub hashes-none : (slots : List Slot) → All (λ slot. position_in slot ≡ None) slots → HaveHashes n hashes slots
   hashes-none slots empty = λ p d lp. nothing_has_hash n hashes (slice_index_or slots p d) (empty p d lp)
 
-  -- one slot, with other hashes that agree there
+  -- if `hashes'` agrees at the index in a slot, the slot satisfies `HasHash` for `hashes'`
   has_hash-as : (hashes' : List ℕ) (slot : Slot) → HasHash n hashes slot
       → ((i : ℕ) → position_in slot ≡ Some i → get_or hashes' i 0 ≡ get_or hashes i 0) → HasHash n hashes' slot
   has_hash-as hashes' slot has same i e = has i e ∙ sym (ap (kept n) (same i e))
 
-  -- other hashes to which no slot refers
+  -- if `hashes'` agrees at all residents, the slots satisfy `HaveHashes` for `hashes'`
   pub hashes-as : (hashes' : List ℕ) (slots : List Slot) → HaveHashes n hashes slots
       → ((p i : ℕ) → p < length (positions slots) → resident (positions slots) p ≡ Some i → get_or hashes' i 0 ≡ get_or hashes i 0)
       → HaveHashes n hashes' slots
@@ -96,7 +96,7 @@ module _ (n : ℕ) (hashes : List ℕ) where
       has_hash-as hashes' (get_or slots p blank) (hashes-at slots p have lp)
       (λ i e. same p i (omega (arith, lp, positions-length slots)) (position-at slots p (Some i) lp (sym e))))
 
-  -- other hashes to which at most one slot refers, which is rewritten
+  -- if `hashes'` agrees at the residents of the other slots, writing a slot for `hashes'` gives `HaveHashes` for `hashes'`
   pub hashes-put : (hashes' : List ℕ) (slots : List Slot) (p : ℕ) (slot : Slot) → HaveHashes n hashes slots → HasHash n hashes' slot
       → ((q i : ℕ) → q < length (positions slots) → q ≢ p → resident (positions slots) q ≡ Some i → get_or hashes' i 0 ≡ get_or hashes i 0)
       → HaveHashes n hashes' (set slots p slot)
@@ -111,13 +111,13 @@ module _ (n : ℕ) (hashes : List ℕ) where
       ])
 
 module _ (hashes : List ℕ) where
-  -- all slots have their hashes after one is written
+  -- writing a slot that satisfies `HasHash` keeps `HaveHashes`
   pub hashes-written : (slots : List Slot) (p : ℕ) (slot : Slot) → HasHash (length slots) hashes slot → HaveHashes (length slots) hashes slots
       → HaveHashes (length (set slots p slot)) hashes (set slots p slot)
   hashes-written slots p slot has have = subst (λ n. HaveHashes n hashes (set slots p slot)) (sym (length-set slots p slot))
       (hashes-set (length slots) hashes slots p slot has have)
 
-  -- all slots are displaced by the stored hashes as by the keys
+  -- in each slot, the stored hash and the key's hash give the same displacement
   pub displacement-in : (slots : List Slot) (p : ℕ) → HaveHashes (length slots) hashes slots → p < length slots
       → displacement_in slots p ≡ displacement hashes (positions slots) p
   unfolding displacement_in displacement
@@ -128,7 +128,7 @@ module _ (hashes : List ℕ) where
       ∙ (ap (λ n. displaced n hashes p (position_in slot)) size
       ∙ ap (displaced (length (positions slots)) hashes p) (sym (position-at slots p (position_in slot) lp refl)))
 
-  -- a computed distance gives the displacement
+  -- the displacement is one more than the distance computed from the stored hash
   pub displacement-read : (slots : List Slot) (p i d : ℕ) → HaveHashes (length slots) hashes slots → p < length slots
       → Some i ≡ position_in (get_or slots p blank) → d ≡ distance (length slots) ((get_or slots p blank).hash % length slots) p
       → displacement hashes (positions slots) p ≡ d + 1
@@ -163,7 +163,7 @@ displaced_by-some : (n p : ℕ) (slot : Slot) (code i : ℕ) → coded_position 
 displaced_by-some n p slot zero i e = cc
 displaced_by-some n p slot (suc j) i e = refl
 
--- the result of an inspection, for a probe
+-- if `same` agrees with `seeks` at the index in slot `p`, the inspection satisfies `LooksAt`
 pub looks_at : (slots : List Slot) (p : ℕ) (same : Bool) (seeks : ℕ → Bool) (seen : Seen) → p < length slots
     → SeenAs (get_or slots p blank) (length slots) p same seen
     → ((i : ℕ) → position_in (get_or slots p blank) ≡ Some i → same ≡ seeks i)

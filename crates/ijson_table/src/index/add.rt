@@ -56,10 +56,10 @@ pub fn add_new_keys<V, H: KeyHash>(
     pairs.len()
 }
 
-/// Inserts the next index, or returns the index of its key if that is a duplicate.
+/// Inserts index `position`, or returns the index of its key if the key is a duplicate.
 ///
-/// The steps are counted. Those of a new key follow from the last slot written: each slot from its home slot to there
-/// was inspected or written, and the one at which the probe ended was both.
+/// Adds to `steps` each slot from the home slot to the last slot read or written. For a new key, the slot at which the
+/// probe ended counts twice, since it is both read and written.
 #[inline(always)]
 pub fn add_new_key<V, H: KeyHash>(
     pairs: &[(IString, V)],

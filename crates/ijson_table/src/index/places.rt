@@ -11,9 +11,10 @@ use crate::index::probe::{ProbeTarget, probe};
 use crate::slot::Seen;
 use ijson_number::Looks;
 
-/// A table: a list of keys, and slots with their indices, ordered by probe distance.
+/// A table: a list of keys, and slots that hold the indices of the keys.
 ///
-/// There are five slots for every four entries of the capacity.
+/// A resident is displaced at most one slot further than the resident of the previous slot, and is in its home slot
+/// after an empty slot. There are five slots for every four entries of the capacity.
 pub trait Places {
     /// The hash that selects the home slot of a key.
     ghost hash_of: { List ℕ → ℕ };

@@ -138,7 +138,7 @@ impl Slots {
         self.set(there, Slot::of(position, moved));
     }
 
-    /// Gives the key of index `position` another hash.
+    /// Moves index `position` to a slot for `hash`, the hash of its new key.
     pub fn rehash_one<V, H: KeyHash>(&mut self, pairs: &[(IString, V)], position: usize, hash: u64)
         requires table { IsTableOf (map H.hash_of (keys_of pairs.now)) self.old }
         requires within { position < length pairs.now }

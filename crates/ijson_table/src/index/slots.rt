@@ -35,9 +35,7 @@ pub struct Slots {
     stored: Stored,
 }
 
-/// The slots, in a representation by their number.
-///
-/// Up to 10 are inline, up to 158 are a list of three bytes each, and more are a list of 16 bytes each.
+/// Slots: up to 10 inline, up to 158 in a list of three-byte slots, and more in a list of 16-byte slots.
 #[derive(Drop)]
 enum Stored {
     Few(FewSlots),
@@ -45,7 +43,7 @@ enum Stored {
     Wide(Vec<Slot>),
 }
 
-/// At most 10 slots. Those from `count` on are unused.
+/// At most 10 slots. The slots from index `count` on are unused.
 #[derive(Clone, Copy, Drop)]
 struct FewSlots {
     count: u8,

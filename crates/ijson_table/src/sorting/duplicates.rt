@@ -6,10 +6,11 @@ ghost use Rattle.ijson_table.specs.private.EntryOrder.{AreEarlier};
 
 use ijson_string::IString;
 
-/// Inserts the pairs in order within their list, and returns the number of keys. Replaced pairs are after them.
+/// Merges duplicate keys in place, and returns the number of distinct keys.
 ///
-/// A duplicate key keeps its index and has its last value. `earlier` has an earlier index of the same key at each index, or
-/// the index itself if there is none, so no key is compared.
+/// Keys are in the order of their first occurrence, each with its last value; replaced pairs are moved to the end.
+/// `earlier[i]` must be the index of an earlier pair with the key of pair `i`, or `i` if there is no such pair. So no key
+/// is compared.
 ///
 /// # Cost
 ///

@@ -1,4 +1,4 @@
-//! An earlier index of each duplicate key, by one pass over sorted hashed indices.
+//! Finds the previous index with the same key for each pair, in one pass over the sorted hashed indices.
 
 ghost use Rattle.std.specs.Prelude.{◌≡◌, ℕ, List, ◌+◌, ◌<◌, ◌≤◌, ◌^◌, length, IfOk, OnErr, IsTrue, ◌↔◌};
 ghost use Rattle.ijson_table.specs.Store.{keys_of};
@@ -11,9 +11,9 @@ use std::alloc::{AllocError, Global};
 
 /// Returns, for each index of the pairs, the previous index with the same key, or the index itself if there is none.
 ///
-/// `sorted` has the hashed indices of all pairs in the order of `EntryOrder`: those of one key are adjacent, in ascending
-/// order. Each counts as one inspection, in which two keys are compared if their hashes are equal. An empty list does
-/// not allocate.
+/// `sorted` must have the hashed indices of all pairs in the order of `EntryOrder`: indices with equal keys are
+/// adjacent, in ascending order. Each index counts as one inspection, which compares two keys if their hashes are equal.
+/// An empty list does not allocate.
 pub fn earlier_positions<V>(
     alloc: Global,
     sorted: &[HashedIndex],

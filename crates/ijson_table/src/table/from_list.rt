@@ -162,7 +162,7 @@ fn put_in_place<V: Drop, H: KeyHash>(
         pairs.swap(kept, position);
         match add_new_key::<V, H>(pairs, slots, modulus, kept, steps) {
             None => kept += 1,
-            // Both have the same key, so its index is still right.
+            // The swapped pairs have the same key, so the index in that key's slot stays valid.
             Some(at) => pairs.swap(at, kept),
         }
     }

@@ -35,7 +35,8 @@ at κ = record { mir = named 0; lft = κ }
 
 module _ {M : Type 1} {𝓤 : Ura M} (𝓛 : Logic 𝓤) {K : Type 0} {Γ : List (Item 𝓤)} {E : Env 𝓤 𝓛.H} {C : Calls 𝓤 𝓛.H} {Λ : Loops 𝓤 𝓛.H}
     {f : Callee} {xs : List Operand} {d : Place} {rest : Body} {post : Post 𝓤 𝓛.H} (t : K) (κ : Lft) (q : Share) (r : MutBor V.Denot) where
-  -- the part as a variant, the formula that the value follows and the token, if the value is of the kind that the call requires
+  -- after a call that requires kind `k`, of a value of that kind, the rest may use the part as a variant of `DestructuredMut`,
+  -- `LendsParts` and the lifetime token
   pub part_called : FmC 𝓤 𝓛.H 𝓛.laws C → (k : ValueType) → kind_of r.now.tree ≡ k → (R : RattleType)
       → ((part : R.Denot) (vs : List Val) → Is R part vs → Typed R.mir vs) → (variant : R.Denot → DestructuredMut) (n : ℕ)
       → ((part : R.Denot) (w : Val) → ent 𝓤 (sem 𝓛 (R.own_val part (w ∷ []))) (sem 𝓛 ((PartsOf (at κ)).own_val (variant part) (live n (of_list (w ∷ [])) ∷ []))))

@@ -121,7 +121,7 @@ mutual
       (items_alike ts us vs d.1 e.1 f.1 (second_so (same t u) (same_each ts us) h) i)
 
 -- ---- Less is transitive
--- no other order is Less
+-- holds only for `Some Less`
 abbrev IsLess : Option Ordering → Type 0
 IsLess None = ⊥
 IsLess (Some o) = MatchOrdering o (Unit {0}) ⊥ ⊥

@@ -1,5 +1,4 @@
--- The value one step inside a value, the value without it, and with another there: the trees of the results of a list of elements and of a
--- store of entries.
+-- `tree_at`, `tree_without` and `tree_with` agree with get, remove and set on the elements of an array and the entries of an object.
 use Rattle.std.specs.Prelude.{◌≡◌, ℕ, zero, suc, ◌-◌, true, false, List, [], ◌∷◌, Some, None, map, length, take, set}
 use Rattle.std.specs.Prelude.{swap, get_or, slice_get, option_map, IsSome, cond}
 use Rattle.std.specs.List.{remove}
@@ -26,7 +25,7 @@ items_list-items : (vs : List WellFormed) → items_list (item_trees vs) ≡ map
 items_list-items [] = refl
 items_list-items (v ∷ vs) = ap (λ ts. v.tree ∷ ts) (items_list-items vs)
 
--- if a step leads to a value, the kind is the one that the step is for
+-- if a step leads to a value, the outer value is of the kind that the step requires
 pub kind_at : (t : Tree) (step : Step) → IsSome (tree_at t step) → kind_of t ≡ kind_for step
 kind_at (array ts) (by_position i) h = refl
 kind_at (object ps) (by_key key) h = refl
@@ -47,7 +46,7 @@ value_at (p ∷ ps) key = elim (bytes_eq key p.0) as (λ b. option_map tree_of (
       | false ↦ value_at ps key
     ]
 
--- without it
+-- removing element `i` gives `tree_without`
 pub item_without : (vs : List WellFormed) (i : ℕ) → array_tree (remove vs i) ≡ tree_without (array_tree vs) (by_position i)
 item_without vs i =
     ap (λ ts. array (items_of ts)) (map-remove tree_of vs i)
@@ -78,7 +77,7 @@ pub value_without : (ps : List (List ℕ × WellFormed)) (key : List ℕ)
 value_without ps key = ap (λ ms. object (members_of ms)) (out_key-trees swap_out swap_out ps (swap_out-trees ps) key)
     ∙ ap (λ ms. object (members_of (swap_out_key key ms))) (sym (members_list-pairs ps))
 
--- with another there
+-- setting element `i` to `w` gives `tree_with`
 item_with : (vs : List WellFormed) (i : ℕ) (w : WellFormed)
     → array_tree (set vs i w) ≡ tree_with (array_tree vs) (by_position i) w.tree
 item_with vs i w = ap (λ ts. array (items_of ts)) (map-set tree_of vs i w)

@@ -89,8 +89,8 @@ impl IObject {
 
     /// Creates an object of `pairs`, as if they were inserted in order.
     ///
-    /// A duplicate key keeps its first index and its last value. The list becomes that of the object: its length is the capacity, and its
-    /// spare capacity is freed. An empty list does not allocate; any other allocates the table.
+    /// A duplicate key keeps its first index and its last value. The object takes over the list and frees its spare capacity. The capacity
+    /// of the object is `pairs.len()`, duplicates included. An empty list does not allocate; any other allocates the table.
     ///
     /// ```
     /// let object = IObject::from_pairs(alloc, pairs)?; // a: 1, b: 2, a: 3 gives a: 3, b: 2

@@ -216,9 +216,9 @@ impl IValue {
 }
 
 impl IValue {
-    /// Returns `opened.get_mut(index)`, for calls by path.
+    /// Returns `opened.get_mut(index)`, so that `IValue::get_mut(&mut value, index)` is `value.get_mut(index)`.
     ///
-    /// The argument derefs: `IValue::get_mut(&mut value, "port")` is the call `value.get_mut("port")`.
+    /// The argument `&mut value` derefs to `&mut Destructured`, which has the method.
     pub fn get_mut<I: ValueIndex>(opened: &mut Destructured, index: I) -> Option<&mut IValue>
         requires { kind_of (node_value opened.old).tree ≡ kind_for (I.Sealed.step index) }
         ensures* writes_back { sem 𝓛 (LendsStepIf opened.entry (I.Sealed.step index) result) }
@@ -228,7 +228,7 @@ impl IValue {
         I::index_opened_mut(opened, index)
     }
 
-    /// Returns `opened.index_or_insert(key)`, for calls by path like `IValue::get_mut`.
+    /// Returns `opened.index_or_insert(key)`, for calls as `IValue::index_or_insert(&mut value, key)`.
     pub fn index_or_insert(
         opened: &mut Destructured,
         key: IString,

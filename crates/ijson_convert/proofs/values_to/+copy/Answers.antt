@@ -64,7 +64,7 @@ copy_pairs-loop-key-init g t c = record {
   room = search rules;
 }
 
--- the entries so far, this one and those that are left
+-- the entries of the object are the entries so far, the current entry and the entries left
 pair_parts : (g : Over) (t : ℕ) (c : copy_pairs-After-intern g t)
     → c.args.object.now.pairs ≡ c.loop-key.invariant.done ++ (c.in-Some.key.now, c.in-Some.value.now) ∷ c.next.new.self
 pair_parts g t c = c.loop-key.invariant.parts ∙ ap (λ ps. c.loop-key.invariant.done ++ ps) c.in-Some.ensures.steps
@@ -77,7 +77,7 @@ copy_pairs-copy_value-requires g t c =
     (deep_middle c.loop-key.invariant.done (c.in-Some.key.now, u) c.next.new.self) in
     λ κs lives. (omega (arith, below, c.decreases), lives)
 
--- a beginning of this entry's strings is one of all strings
+-- interning some first strings of the current entry is interning some first strings of the object
 pair_begun : (g : Over) (t : ℕ) (c : copy_pairs-After-intern g t) (new : Texts)
     → SomeInterned (c.as_str.result.now ∷ texts_of c.in-Some.value.now.tree) c.loop-key.cache new
     → SomeInterned (texts_of (object_tree c.args.object.now.pairs)) c.args.cache.now new
@@ -128,13 +128,13 @@ copy_pairs-loop-key-preserved g t c =
       );
     }
 
--- if none is left, those so far are all
+-- if no entry is left, the entries so far are all entries
 all_done : (g : Over) (t : ℕ) (c : copy_pairs-After-from_pairs g t) → c.loop-key.invariant.done ≡ c.args.object.now.pairs
 all_done g t c =
     let done = c.loop-key.invariant.done in
     sym (c.loop-key.invariant.parts ∙ ap (λ ps. done ++ ps) c.in-None.ensures.steps.0 ∙ append-nil done)
 
--- if none is left, all strings are interned
+-- after the last entry, all strings of the object are interned
 all_texts : (g : Over) (t : ℕ) (c : copy_pairs-After-from_pairs g t)
     → c.loop-key.cache ≡ all_interned (texts_of (object_tree c.args.object.now.pairs)) c.args.cache.now
 all_texts g t c =

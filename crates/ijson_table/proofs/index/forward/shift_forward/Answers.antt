@@ -50,14 +50,15 @@ module _ (hashes : List ℕ) (old : List Slot) (position from : ℕ) (slots : Li
   abbrev ps : List (Option ℕ)
   ps = positions slots
 
-  -- the pending index may be put into the current slot,
+  -- the index that `entry` holds
   abbrev pending : ℕ
   pending = way.held.0
 
+  -- the pending index may be put into the current slot
   may : MayStand hashes ps pending slot
   may = way.held.3
 
-  -- which is one of the slots
+  -- the current slot is one of the slots
   here : slot < length slots
   here = omega (arith, may.within, positions-length slots)
 
@@ -67,7 +68,7 @@ module _ (hashes : List ℕ) (old : List Slot) (position from : ℕ) (slots : Li
   put : Holds hashes want (resident ps slot) (positions (set slots slot entry))
   put = rw (positions-put slots slot entry pending way.held.1) (put_down hashes want ps pending slot may.within way.held.2 may)
 
-  -- if the slot is empty, the last one is written
+  -- if the slot is empty, writing `entry` to it completes the shift
   is_put : position_in read ≡ None → IsPut hashes old position from slot (set slots slot entry)
   is_put empty =
       let none : resident ps slot ≡ None = position-at slots slot None here (sym empty ∙ ap position_in is) in
@@ -103,7 +104,7 @@ module _ (hashes : List ℕ) (old : List Slot) (position from : ℕ) (slots : Li
     stood : resident ps slot ≡ Some k
     stood = position-at slots slot (Some k) here (sym there ∙ ap position_in is)
 
-    -- there is a next slot,
+    -- the next slot is not the first slot, `from`
     room : distance n from slot + 1 < n
     room = elim (cases_eq (distance n from e) (distance n from slot)) [
       | inl same ↦
@@ -113,7 +114,7 @@ module _ (hashes : List ℕ) (old : List Slot) (position from : ℕ) (slots : Li
       | inr other ↦ omega (arith, ahead, other, distance-below n from e way.starts le)
     ]
 
-    -- which is one further from the first,
+    -- the next slot is one slot further from `from`
     further : distance n from next ≡ distance n from slot + 1
     further = ap (distance n from) to ∙ distance-after n from slot way.starts within room
 
@@ -123,7 +124,7 @@ module _ (hashes : List ℕ) (old : List Slot) (position from : ℕ) (slots : Li
         (taken_up hashes ps pending k slot e may.within (omega (arith, le, way.size, positions-length slots)) way.held.2.ordered
         (displacement-none hashes ps e still_empty) stood may.further))
 
-    -- and the invariant holds there
+    -- the invariant holds at the next slot
     goes_further : IsOnTheWay hashes old position from (set slots slot entry) read next
     goes_further = record {
       starts = way.starts;
@@ -168,20 +169,20 @@ loop-was-init g c = record {
       subst (λ entry. IsOnTheWay hashes stored c.args.position c.args.from stored entry c.args.from) (sym c.stored-entry.ensures) way;
 }
 
--- the value read represents the slot,
+-- the stored slot that was read represents the slot
 read_seen : (g : _) (c : After-is_empty g) → g.S.StoredSlot.stands_for c.index-slots-slot.result
     ≡ get_or (map g.S.StoredSlot.stands_for c.loop-was.slots) c.loop-was.slot blank
 read_seen g c = seen_at g.S.StoredSlot.stands_for c.loop-was.slots c.loop-was.slot c.index-slots-slot.result
     (omega (arith, c.loop-was.invariant.inside, length-map c.loop-was.slots g.S.StoredSlot.stands_for)) c.index-slots-slot.is
 
--- which has a resident if it is not empty
+-- a slot that is not empty has a resident
 stands : (g : _) (c : After-is_empty g) → c.is_empty.result ≡ false
     → (k : ℕ) × (position_in (g.S.StoredSlot.stands_for c.index-slots-slot.result) ≡ Some k)
 stands g c full =
     let who = some_position (position_in c.widened.result) (λ none. let empty = c.is_empty.ensures.1 none in absurd (cc (empty, full))) in
     (who.0, sym (ap position_in c.widened.ensures.value) ∙ who.1)
 
--- the next slot, among the represented ones
+-- the next slot is the same among the represented slots
 next_seen : (g : _) (c : goal.After-next_slot-slot g) → c.next_slot-slot.result
     ≡ after (length (map g.S.StoredSlot.stands_for c.args.slots.now)) c.loop-was.slot
 next_seen g c = c.next_slot-slot.ensures.slot ∙ ap (λ n. after n c.loop-was.slot) (sym (length-map c.args.slots.now g.S.StoredSlot.stands_for))
