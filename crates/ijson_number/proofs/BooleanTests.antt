@@ -1,4 +1,4 @@
--- Facts from the results of tests.
+-- Comparisons of integers return `true` exactly if the compared relation holds.
 use Rattle.ijson_number.proofs.Common.{◌≡◌, ◌≢◌, ℕ, ◌<◌, true, false, ap, arith, ℤ, pos, negsuc, nat_abs, nat_eq, int_le, int_lt, ◌≤ℤ◌, ◌<ℤ◌, ints}
 
 pub test_le : (a b : ℤ) → int_le a b ≡ true → a ≤ℤ b

@@ -1,4 +1,4 @@
--- The names that most proofs cite.
+-- Names that most proofs import.
 pub use Rattle.std.proofs.Common.{Option, Some, None, Result, Ok, Err, OnErr, ◌≡◌, ◌<◌, Bool, true, false, [], ◌∷◌, length, refl, ap, sym, ◌∙◌, arith}
 pub use Rattle.std.proofs.Common.{◌^◌, ℕ, subst, ◌↔◌, List, map, inl, inr, zero, suc, ◌*◌, ap₂, ◌≢◌, ◌+◌, min, get_or, drop, add-one, ◌-◌, ◌≤◌}
 pub use Rattle.std.proofs.Common.{pow-add, rules, take, ◌++◌, length-drop, ◌/◌, ◌%◌, string_bytes, append_assoc, replicate, length-append, ◌⊎◌, cond}

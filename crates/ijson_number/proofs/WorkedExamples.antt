@@ -1,4 +1,4 @@
--- Worked examples, by computation.
+-- Examples of texts, representations, comparisons and hash words, proved by computation.
 use Rattle.ijson_number.proofs.Common.{◌≡◌, true, false, List, [], ◌∷◌, map, refl, ℤ, pos, negsuc, neg_ℤ, codes, Less, Equal, Greater, Decimal}
 use Rattle.ijson_number.proofs.Common.{stripped_digits, num_text, number_cmp, form_of, packed, signed_word, unsigned_word, digits}
 use Rattle.ijson_number.specs.Words.{number_words}
@@ -9,7 +9,7 @@ float m e = record { mantissa = m; exponent = e; point = true }
 abbrev whole : ℤ → ℤ → Decimal
 whole m e = record { mantissa = m; exponent = e; point = false }
 
--- the definition maps the first component of each row to the second
+-- Holds if `f` maps the first component of each row to the second.
 abbrev IsTable : {A B : Type 0} → (A → B) → List (A × B) → Type 0
 IsTable f rows = map (λ r. f r.0) rows ≡ map (λ r. r.1) rows
 

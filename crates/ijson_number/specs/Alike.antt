@@ -1,4 +1,4 @@
--- Indistinguishable numbers: they have the same value and decimal point.
+-- Two numbers are indistinguishable if they have the same value and the same `point`.
 use Rattle.std.specs.Prelude.{◌≡◌, IsTrue}
 use Rattle.ijson_number.specs.Decimal.{Decimal}
 use Rattle.ijson_number.specs.Order.{number_eq}

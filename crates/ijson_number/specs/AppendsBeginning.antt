@@ -1,7 +1,7 @@
--- The state after a failed append.
+-- The contents of a buffer after a failed append.
 use Rattle.std.specs.Prelude.{◌≡◌, ℕ, List, ◌++◌}
 
--- a beginning of `text`, possibly none or all of it, was appended to `before`
+-- `after` is `before` followed by a prefix of `text`. The prefix can be empty or all of `text`.
 pub record AppendsBeginning (before after text : List ℕ) : Type 0 where
   pub front : List ℕ
   pub rest : List ℕ

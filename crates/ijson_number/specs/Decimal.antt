@@ -1,5 +1,5 @@
--- A decimal: a whole mantissa times a power of ten, and whether it was written with a decimal point or an exponent (as
--- RFC 8259, section 6, writes numbers).
+-- A decimal has the value `mantissa * 10 ^ exponent`. `point` is `true` if the number was written
+-- with a decimal point or an exponent (RFC 8259, section 6).
 use Rattle.std.specs.Prelude.{◌≡◌, ◌≢◌, ◌%◌, ℤ, pos, nat_abs, ◌≤ℤ◌, Bool, false}
 
 pub record Decimal : Type 0 where
@@ -7,7 +7,8 @@ pub record Decimal : Type 0 where
   pub exponent : ℤ
   pub point : Bool
 
--- zero has the exponent 0; ten divides no other mantissa; without a decimal point the number is whole
+-- Holds if the decimal is canonical: the exponent of zero is 0, ten does not divide a nonzero
+-- mantissa, and a number without a decimal point is an integer.
 pub record IsPlain (n : Decimal) : Type 0 where
   pub zero : n.mantissa ≡ pos 0 → n.exponent ≡ pos 0
   pub stripped : n.mantissa ≢ pos 0 → nat_abs n.mantissa % 10 ≢ 0

@@ -1,4 +1,5 @@
--- The digits that a comparison of numbers reads.
+-- The digits that a comparison of numbers reads. `digit_count` is the number of digits of the
+-- canonical mantissa.
 use Rattle.std.specs.Prelude.{◌≡◌, ◌≢◌, ℕ, ℤ, pos, ◌+ℤ◌, ◌*◌, min, length}
 use Rattle.std.specs.Ordering.{int_cmp}
 use Rattle.ijson_number.specs.Decimal.{Decimal}
@@ -7,16 +8,19 @@ use Rattle.ijson_number.specs.StrippedDigits.{stripped_digits}
 abbrev pub digit_count : Decimal → ℕ
 digit_count n = length (stripped_digits n)
 
--- the position of the decimal point after the start of the digits; 0 for zero
+-- The number of digits before the decimal point, negative if zeros follow the point; 0 for the
+-- number zero.
 abbrev pub leading_place : Decimal → ℤ
 leading_place n = pos (digit_count n) +ℤ n.exponent
 
--- neither the signs nor the leading places decide the order
+-- Holds if the order of `a` and `b` depends on their digits: `a` is not zero, and both numbers have
+-- the same sign and the same `leading_place`.
 pub record NeedsDigits (a b : Decimal) : Type 0 where
   pub some : a.mantissa ≢ pos 0
   pub sign : int_cmp a.mantissa (pos 0) ≡ int_cmp b.mantissa (pos 0)
   pub place : leading_place a ≡ leading_place b
 
--- twice the smaller number of digits
+-- The maximum number of digits that a comparison of `a` and `b` reads: twice the smaller digit
+-- count.
 abbrev pub most_looks : Decimal → Decimal → ℕ
 most_looks a b = 2 * min (digit_count a) (digit_count b)

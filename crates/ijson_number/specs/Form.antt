@@ -1,4 +1,5 @@
--- The representation of a number.
+-- How a number is represented: by a mantissa and an exponent in 64 bits, by an `i64`, by a `u64`,
+-- or by a list of digits.
 use Rattle.std.specs.Prelude.{ℕ, zero, suc, ◌^◌, ℤ, pos, negsuc, neg_ℤ, nat_abs, ◌*ℤ◌, ◌-ℤ◌, int_lt, int_le, Bool, true, false, ◌&&◌, List}
 use Rattle.ijson_number.specs.Decimal.{Decimal}
 use Rattle.ijson_number.specs.StrippedDigits.{stripped_digits}
@@ -9,7 +10,8 @@ pub data FormOf : Type 0 where
   unsigned_word : ℕ → FormOf
   digits : Bool → List ℕ → ℤ → Bool → FormOf
 
--- a mantissa fits a packed number
+-- Returns `true` if a mantissa fits a packed number, which has 56 bits for it:
+-- `-(2 ^ 55) <= m < 2 ^ 55`.
 abbrev pub fits_packed : ℤ → Bool
 fits_packed m = int_le (neg_ℤ (pos 36028797018963968)) m && int_lt m (pos 36028797018963968)
 
@@ -22,7 +24,7 @@ fits_u64 m = int_le (pos 0) m && int_lt m (pos (2 ^ 64))
 abbrev pub digits_form : Decimal → FormOf
 digits_form n = digits (int_lt n.mantissa (pos 0)) (stripped_digits n) n.exponent n.point
 
--- the whole number m * 10 ^ e, without a decimal point
+-- The representation of the integer `m`, which is the value of `n`, without a decimal point.
 abbrev pub integer_form : Decimal → ℤ → FormOf
 integer_form n m =
     elim (fits_packed m) [
@@ -36,7 +38,8 @@ integer_form n m =
       ]
     ]
 
--- the smallest exponent from k on, among `tries` of them, with a mantissa that fits
+-- The packed representation with the smallest exponent among `k .. k + tries` whose mantissa fits,
+-- or the list of digits if no mantissa fits.
 abbrev pub smallest_packed : (tries k : ℕ) → Decimal → FormOf
 smallest_packed zero k n = digits_form n
 smallest_packed (suc tries) k n =
@@ -59,7 +62,7 @@ form_of n =
       ]
     ]
 
--- a list of digits, which is allocated
+-- Returns `true` if a representation is a list of digits. Only a list of digits is allocated.
 abbrev pub is_digits : FormOf → Bool
 is_digits (packed m e point) = false
 is_digits (signed_word z) = false

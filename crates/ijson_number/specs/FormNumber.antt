@@ -1,4 +1,4 @@
--- The number of a form.
+-- The number that a representation denotes.
 use Rattle.std.specs.Prelude.{nat_abs, ℤ, pos, true, false}
 use Rattle.ijson_number.specs.Decimal.{Decimal}
 use Rattle.ijson_number.specs.Form.{FormOf, packed, signed_word, unsigned_word, digits, fits_packed, fits_i64}
@@ -11,7 +11,7 @@ form_number (signed_word z) = stripped_number z (pos 0) false
 form_number (unsigned_word n) = stripped_number (pos n) (pos 0) false
 form_number (digits negative ds e point) = stored_number negative ds e point
 
--- the form of a signed or unsigned integer of 64 bits
+-- The representation of an integer that fits an `i64` or a `u64`.
 abbrev pub integer_word : ℤ → FormOf
 integer_word z =
     elim (fits_packed z) [

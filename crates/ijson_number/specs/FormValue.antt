@@ -1,4 +1,4 @@
--- A form without its reference.
+-- The mathematical value of a `Form`, with its borrowed digits as a list.
 use Rattle.ijson_number.specs.Form.{FormOf, packed, signed_word, unsigned_word, digits}
 use Rattle.ijson_number.specs.declared.number.Form.{Form}
 use Rattle.ijson_number.specs.declared.number.Form.TheVariants.{Packed, I64, U64, Digits}

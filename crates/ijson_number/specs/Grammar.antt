@@ -1,41 +1,43 @@
--- The texts that spell a number, and the number of each: the number grammar of RFC 8259, section 6.
+-- The number grammar of RFC 8259, section 6: which byte strings spell a number, and which number
+-- each spells.
 use Rattle.std.specs.Prelude.{◌≡◌, ◌⊎◌, ℕ, ◌≤◌, ◌-◌, ℤ, pos, neg_ℤ, ◌-ℤ◌, Bool, true, false, List, [], ◌∷◌, ◌++◌, map, length, ◌||◌}
 use Rattle.std.specs.List.{AllByRecursion}
 use Rattle.std.specs.Int.Digits.{number_from_digits}
 use Rattle.ijson_number.specs.Decimal.{Decimal}
 use Rattle.ijson_number.specs.Strips.{Strips, signed}
 
--- '0' to '9'
+-- Holds if the byte is one of `'0'` to `'9'`.
 abbrev pub IsDigit : ℕ → Type 0
 IsDigit b = (48 ≤ b) × (b ≤ 57)
 
 abbrev pub AllDigits : List ℕ → Type 0
 AllDigits bs = AllByRecursion IsDigit bs
 
--- at least one digit
+-- Holds if the list has at least one byte and each byte is a digit.
 abbrev pub IsDigits : List ℕ → Type 0
 IsDigits [] = ⊥
 IsDigits (b ∷ bs) = IsDigit b × AllDigits bs
 
--- the value of digits
+-- The value of a list of digit bytes, read in base 10.
 abbrev pub value : List ℕ → ℕ
 value bs = number_from_digits 10 (map (λ b. b - 48) bs)
 
--- '-' or nothing
+-- Holds if `text` is empty and `negative` is false, or `text` is `'-'` and `negative` is true.
 abbrev pub IsMinus : List ℕ → Bool → Type 0
 IsMinus text negative = (text ≡ [] × negative ≡ false) ⊎ (text ≡ 45 ∷ [] × negative ≡ true)
 
--- '0', or a digit '1' to '9' and any digits
+-- Holds if the bytes are `'0'`, or a digit `'1'` to `'9'` followed by any number of digits.
 abbrev pub IsWhole : List ℕ → Type 0
 IsWhole [] = ⊥
 IsWhole (b ∷ bs) = (b ≡ 48 × bs ≡ []) ⊎ ((49 ≤ b) × (b ≤ 57) × AllDigits bs)
 
--- nothing, or '.' and at least one digit
+-- Holds if the bytes are an optional fraction with these digits. A written fraction is `'.'` and at
+-- least one digit. `written` is false if the bytes are empty.
 abbrev pub IsFraction : List ℕ → (digits : List ℕ) → (written : Bool) → Type 0
 IsFraction [] digits written = digits ≡ [] × written ≡ false
 IsFraction (b ∷ bs) digits written = b ≡ 46 × IsDigits bs × digits ≡ bs × written ≡ true
 
--- at least one digit, after '+', '-' or no sign
+-- Holds if the bytes are an optional `'+'` or `'-'` and at least one digit, and denote the integer.
 abbrev pub IsSigned : List ℕ → ℤ → Type 0
 IsSigned [] z = ⊥
 IsSigned (b ∷ bs) z =
@@ -43,12 +45,14 @@ IsSigned (b ∷ bs) z =
     ⊎ (b ≡ 45 × IsDigits bs × z ≡ neg_ℤ (pos (value bs)))
     ⊎ (IsDigits (b ∷ bs) × z ≡ pos (value (b ∷ bs)))
 
--- nothing, or 'e' or 'E' and a signed number
+-- Holds if the bytes are an optional exponent with the value `z`. A written exponent is `'e'` or
+-- `'E'` and a signed integer. The value is 0 and `written` is false if the bytes are empty.
 abbrev pub IsExponent : List ℕ → ℤ → (written : Bool) → Type 0
 IsExponent [] z written = z ≡ pos 0 × written ≡ false
 IsExponent (b ∷ bs) z written = (b ≡ 101 ⊎ b ≡ 69) × IsSigned bs z × written ≡ true
 
--- the parts of a number's text, in order, and their values
+-- The parts of a spelled number in the order of its bytes: sign, whole digits, fraction digits and
+-- exponent. `point` is true if a fraction or an exponent was written.
 pub record Parts : Type 0 where
   pub negative : Bool
   pub whole : List ℕ
@@ -56,7 +60,7 @@ pub record Parts : Type 0 where
   pub exponent : ℤ
   pub point : Bool
 
--- the text consists of these parts
+-- Holds if `text` is a spelling of the parts `p` according to RFC 8259.
 pub record IsSpelled (text : List ℕ) (p : Parts) : Type 0 where
   pub minus_text : List ℕ
   pub fraction_text : List ℕ
@@ -70,14 +74,15 @@ pub record IsSpelled (text : List ℕ) (p : Parts) : Type 0 where
   pub exponent : IsExponent exponent_text p.exponent has_exponent
   pub point : p.point ≡ has_point || has_exponent
 
--- the parts denote the number: the value of all digits with the sign, times ten to the written exponent minus the number of fraction
--- digits, without trailing zeros
+-- Holds if the parts denote the number `n`. The mantissa is the signed value of all digits. The
+-- exponent is the written exponent minus the number of fraction digits. Trailing zeros of the
+-- mantissa are stripped.
 abbrev pub Denotes : Parts → Decimal → Type 0
 Denotes p n =
     let mantissa = signed p.negative (value (p.whole ++ p.fraction)) in
     let exponent = p.exponent -ℤ pos (length p.fraction) in
     Strips mantissa exponent n × n.point ≡ p.point
 
--- the text spells the number
+-- Holds if `text` is a JSON number that denotes `n`.
 abbrev pub Spells : List ℕ → Decimal → Type 0
 Spells text n = (p : Parts) × IsSpelled text p × Denotes p n

@@ -1,4 +1,4 @@
--- Why a text is rejected.
+-- The errors of parsing a number.
 use Rattle.std.specs.Prelude.{◌≡◌, ℕ, List, true}
 use Rattle.ijson_number.specs.Decimal.{Decimal}
 use Rattle.ijson_number.specs.Num.{IsNum}
@@ -7,7 +7,9 @@ use Rattle.ijson_number.specs.Grammar.{Spells}
 use Rattle.ijson_number.specs.declared.number.ParseNumberError.{ParseNumberError}
 use Rattle.ijson_number.specs.declared.number.ParseNumberError.TheVariants.{Invalid, Memory}
 
--- the text spells no Num; or it spells one whose form is a list of digits
+-- Holds if parsing `text` fails with this error. `Invalid`: `text` does not spell a number within
+-- the limits. `Memory`: `text` spells a number that is stored as a list of digits, so an allocation
+-- can fail.
 abbrev pub IsRefused : List ℕ → ParseNumberError → Type 0
 IsRefused text Invalid = (n : Decimal) → Spells text n → IsNum n → ⊥
 IsRefused text Memory = (n : Decimal) × Spells text n × IsNum n × (is_digits (form_of n) ≡ true)

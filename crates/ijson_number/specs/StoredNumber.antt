@@ -1,4 +1,4 @@
--- The number of a sign, digits, an exponent and a decimal point.
+-- The decimal with a given sign, digits, exponent and `point`.
 use Rattle.std.specs.Prelude.{ℕ, ℤ, Bool, List}
 use Rattle.std.specs.Int.Digits.{number_from_digits}
 use Rattle.ijson_number.specs.Decimal.{Decimal}

@@ -1,4 +1,5 @@
--- The number of a mantissa of at most 20 digits and an exponent, with trailing zeros of the mantissa stripped.
+-- Stripping the trailing zeros of a mantissa. `with_ten` is one step: if ten divides `n`, it counts
+-- one more zero in `rest`.
 use Rattle.std.specs.Prelude.{ℕ, zero, suc, ◌/◌, ◌%◌, nat_eq, nat_abs, int_lt, ℤ, pos, ◌+ℤ◌, Bool, true, false}
 use Rattle.ijson_number.specs.Decimal.{Decimal}
 use Rattle.ijson_number.specs.Strips.{signed}
@@ -7,7 +8,8 @@ abbrev pub with_ten : Bool → ℕ → ℕ × ℕ → ℕ × ℕ
 with_ten true n rest = (rest.0, suc rest.1)
 with_ten false n rest = (n, 0)
 
--- a number without its trailing zeros, up to `turns` of them, and how many were stripped
+-- `n` without its trailing zeros, at most `turns` of them, paired with the number of zeros
+-- stripped.
 unfoldable pub tens_out : ℕ → ℕ → ℕ × ℕ
 tens_out zero n = (n, 0)
 tens_out (suc turns) n = with_ten (nat_eq (n % 10) 0) n (tens_out turns (n / 10))
@@ -16,7 +18,8 @@ abbrev pub exponent_above : Bool → ℤ → ℕ → ℤ
 exponent_above true e tens = pos 0
 exponent_above false e tens = e +ℤ pos tens
 
--- a mantissa of at most 20 digits times ten to the exponent, without trailing zeros
+-- The decimal `m * 10 ^ e` without trailing zeros in its mantissa. Strips at most 20 zeros, so `m`
+-- may have at most 20 digits.
 abbrev pub stripped_number : ℤ → ℤ → Bool → Decimal
 stripped_number m e point =
     let r = tens_out 20 (nat_abs m) in

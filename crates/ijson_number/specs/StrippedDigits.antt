@@ -2,7 +2,8 @@
 use Rattle.std.specs.Prelude.{ℕ, zero, suc, ◌/◌, ◌%◌, nat_eq, nat_abs, true, false, List, [], ◌∷◌, ◌++◌}
 use Rattle.ijson_number.specs.Decimal.{Decimal}
 
--- the digits of a number, or its last `turns` digits if it has more
+-- The last `turns` digits of a number, most significant first, or all of its digits if it has
+-- fewer.
 abbrev pub digits_within : ℕ → ℕ → List ℕ
 digits_within zero n = []
 digits_within (suc turns) n =
@@ -11,6 +12,6 @@ digits_within (suc turns) n =
       | false ↦ digits_within turns (n / 10) ++ (n % 10 ∷ [])
     ]
 
--- the digits of the mantissa, the most significant first; none for zero
+-- The digits of the mantissa of `n`, most significant first. The list is empty for zero.
 abbrev pub stripped_digits : Decimal → List ℕ
 stripped_digits n = digits_within (nat_abs n.mantissa) (nat_abs n.mantissa)

@@ -2,11 +2,11 @@
 use Rattle.std.specs.Prelude.{◌≡◌, ◌⊎◌, ℕ, ◌^◌, ℤ, pos, neg_ℤ, ◌*ℤ◌, ◌+ℤ◌, Bool, cond}
 use Rattle.ijson_number.specs.Decimal.{Decimal, IsPlain}
 
--- a whole number by its sign and absolute value
+-- The integer with the given sign and absolute value.
 abbrev pub signed : (negative : Bool) → ℕ → ℤ
 signed negative n = cond negative (neg_ℤ (pos n)) (pos n)
 
--- n is m * 10 ^ e, without trailing zeros of m
+-- Holds if `n` is canonical and has the value `m * 10 ^ e`.
 pub record Strips (m e : ℤ) (n : Decimal) : Type 0 where
   pub plain : IsPlain n
   pub tens :

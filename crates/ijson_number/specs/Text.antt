@@ -1,30 +1,33 @@
--- How a number is written. The rules are this project's own; the text is JSON (RFC 8259, section 6).
+-- The JSON text of a number (RFC 8259, section 6). When an exponent is written is this project's
+-- own choice.
 use Rattle.std.specs.Prelude.{ℕ, ◌+◌, ℤ, pos, negsuc, nat_abs, ◌+ℤ◌, ◌-ℤ◌, int_lt, int_le, Bool, true, false, ◌||◌}
 use Rattle.std.specs.Prelude.{List, [], ◌∷◌, ◌++◌, map, length, take, drop, replicate, nat_eq, zero, suc}
 use Rattle.ijson_number.specs.Decimal.{Decimal}
 use Rattle.ijson_number.specs.StrippedDigits.{digits_within, stripped_digits}
 
--- digits as '0' to '9'
+-- The ASCII text of a list of digits.
 abbrev pub digits_text : List ℕ → List ℕ
 digits_text ds = map (λ d. 48 + d) ds
 
 abbrev pub zeros_text : ℕ → List ℕ
 zeros_text n = replicate n 48
 
--- a whole number in decimal
+-- The decimal text of an integer.
 abbrev pub whole_text : ℤ → List ℕ
 whole_text (pos zero) = 48 ∷ []
 whole_text (pos (suc n)) = digits_text (digits_within (suc n) (suc n))
 whole_text (negsuc n) = 45 ∷ digits_text (digits_within (suc n) (suc n))
 
--- the first digit, '.' and any others, 'e' and the power of ten of the first digit
+-- The scientific text of the digits, such as `1.25e21`: the first digit, `'.'` and further digits
+-- if any, then `'e'` and the exponent `p - 1`.
 abbrev pub scientific_text : List ℕ → (p : ℤ) → List ℕ
 scientific_text [] p = []
 scientific_text (d ∷ []) p = (48 + d) ∷ 101 ∷ whole_text (p -ℤ pos 1)
 scientific_text (d ∷ c ∷ ds) p =
     (48 + d) ∷ 46 ∷ digits_text (c ∷ ds) ++ 101 ∷ whole_text (p -ℤ pos 1)
 
--- the digits ds with the point after p of them, and zeros if p is outside them
+-- The digits `ds` with the decimal point after the first `p` of them. If `p` is outside the list,
+-- zeros are written between the digits and the point.
 abbrev pub point_text : List ℕ → (p : ℤ) → List ℕ
 point_text ds p =
     elim (int_le p (pos 0)) [
@@ -35,7 +38,8 @@ point_text ds p =
       ]
     ]
 
--- the digits ds and the exponent e, with a decimal point
+-- The text of the nonzero number with digits `ds` and exponent `e`, with a decimal point. Very
+-- small and very large numbers are written with an exponent.
 abbrev pub float_text : List ℕ → ℤ → List ℕ
 float_text ds e =
     elim (int_le (pos (length ds) +ℤ e) (negsuc 5) || int_lt (pos 20) e) [
@@ -43,7 +47,8 @@ float_text ds e =
       | false ↦ point_text ds (pos (length ds) +ℤ e)
     ]
 
--- the digits ds and the exponent e, with or without a decimal point
+-- The text of the nonzero number with digits `ds` and exponent `e`, without its sign. Without a
+-- decimal point, `e` zeros follow the digits.
 abbrev pub shape_text : Bool → List ℕ → ℤ → List ℕ
 shape_text point ds e =
     elim point [
@@ -59,7 +64,7 @@ abbrev pub minus_text : Bool → List ℕ
 minus_text true = 45 ∷ []
 minus_text false = []
 
--- the text of a number
+-- The JSON text of a number.
 abbrev pub num_text : Decimal → List ℕ
 num_text n =
     elim (nat_eq (nat_abs n.mantissa) 0) [

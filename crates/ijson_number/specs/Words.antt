@@ -1,9 +1,11 @@
--- The words that a number feeds a hasher; this project's own. Each word is one `write_u64`.
+-- The words that a number feeds to a hasher, each by one call of `write_u64`. The choice of words
+-- is this project's own.
 use Rattle.std.specs.Prelude.{ℕ, pos, nat_abs, nat_eq, ◌+ℤ◌, int_lt, true, false, if◌then◌else◌, List, [], ◌∷◌, length}
 use Rattle.ijson_number.specs.Decimal.{Decimal}
 use Rattle.ijson_number.specs.StrippedDigits.{stripped_digits}
 
--- 2 and 0 for zero; otherwise 2, 1 or 2 for the sign, the exponent plus 2 ^ 31, the number of digits, and the digits
+-- For zero, the words are 2 and 0. For any other number they are 2, the sign as 1 (positive) or 2
+-- (negative), the exponent plus `2 ^ 31`, the number of digits, and the digits.
 abbrev pub number_words : Decimal → List ℕ
 number_words n =
     elim (nat_eq (nat_abs n.mantissa) 0) [

@@ -14,7 +14,9 @@ use crate::repr::stored::{MAX_DIGITS, Stored, StrippedNumber, place_of};
 use std::cmp::Ordering;
 use std::marker::Model;
 
-/// The number of inspections: of slots of a table, or of digits of a number. It is below 2^128.
+/// A count of inspections: the slots of a hash table or the digits of a number that were read.
+///
+/// The count is below `2 ^ 128`.
 #[derive(Debug, Drop)]
 pub struct Looks {
     seen: u128,
@@ -43,7 +45,7 @@ impl Looks {
         self.seen
     }
 
-    /// Adds one inspection. The sum must be below 2^128.
+    /// Adds one inspection. Requires that the sum is below `2 ^ 128`.
     pub fn add_one(&mut self)
         requires { self.old + 1 < 2 ^ 128 }
         ensures { self.new ≡ self.old + 1 }
@@ -51,7 +53,7 @@ impl Looks {
         self.seen += 1;
     }
 
-    /// Adds `count` inspections. The sum must be below 2^128.
+    /// Adds `count` inspections. Requires that the sum is below `2 ^ 128`.
     pub fn add(&mut self, count: u128)
         requires { self.old + count < 2 ^ 128 }
         ensures { self.new ≡ self.old + count }
@@ -60,35 +62,38 @@ impl Looks {
     }
 }
 
-/// A number whose canonical digits are read one by one.
+/// A number whose canonical digits are read individually.
 ///
-/// `1.50` has the digits 1 and 5. No call allocates.
+/// For example, `1.50` has the digits 1 and 5. No method allocates.
 ///
 /// # Cost
 ///
-/// An `INumber` that is stored in one word computes its digits, at most 20, anew for each call except `sign`. A boxed one takes constant
-/// time for each call.
+/// Each method takes constant time. An `INumber` that is not boxed computes its digits, at most 20,
+/// in each call of a method other than `sign`.
 pub trait DigitRow {
-    /// The number.
+    /// The number whose digits are read.
     ghost num: { Self → Num };
 
     /// Returns `Less` for a negative number, `Equal` for zero and `Greater` for a positive number.
     fn sign(&self) -> Ordering
         ensures { result ≡ int_cmp (num self.now).decimal.mantissa (pos 0) };
 
-    /// Returns the number of canonical digits; 0 for zero.
+    /// Returns the number of canonical digits, or 0 for zero.
     fn count(&self) -> usize
         ensures { result ≡ digit_count (num self.now).decimal };
 
-    /// Returns the number of canonical digits plus the canonical exponent; 0 for zero.
+    /// Returns the position of the decimal point relative to the first canonical digit, or 0 for
+    /// zero.
     ///
-    /// It is the position of the decimal point after the start of the digits: 1 for `1.50`, 0 for `0.5` and -1 for `0.05`.
+    /// This is the number of canonical digits plus the canonical exponent: 1 for `1.50`, 0 for
+    /// `0.5` and -1 for `0.05`.
     fn lead(&self) -> i128
         ensures { result ≡ leading_place (num self.now).decimal };
 
-    /// Returns the canonical digit at `at`, from 0 to 9; the one at 0 is the most significant.
+    /// Returns the canonical digit at index `at`, from 0 to 9, and adds one inspection to `looks`.
     ///
-    /// Call it only if `at` is below `count`. It adds one inspection to `looks`, whose count must stay below 2^128.
+    /// The digit at index 0 is the most significant. Requires that `at` is below `count`, and that
+    /// the count of `looks` remains below `2 ^ 128`.
     fn digit(&self, at: usize, looks: &mut Looks) -> u8
         requires within { at < digit_count (num self.now).decimal }
         requires fits { looks.old + 1 < 2 ^ 128 }
@@ -96,7 +101,7 @@ pub trait DigitRow {
         ensures counts { looks.new ≡ looks.old + 1 };
 }
 
-/// Compares the digits of two numbers whose leading digits have the same place.
+/// Compares the digits of two numbers that have the same `lead`.
 fn compare_digits<D: DigitRow>(a: &D, b: &D, looks: &mut Looks) -> Ordering
     requires fits { looks.old + most_looks (D.num a.now).decimal (D.num b.now).decimal < 2 ^ 128 }
     ensures order { result ≡ slice_cmp nat_cmp
@@ -117,7 +122,7 @@ fn compare_digits<D: DigitRow>(a: &D, b: &D, looks: &mut Looks) -> Ordering
     count.cmp(&other_count)
 }
 
-/// Compares the absolute values of two numbers of one sign, neither of which is zero.
+/// Compares the absolute values of two nonzero numbers of the same sign.
 fn compare_magnitudes<D: DigitRow>(a: &D, b: &D, looks: &mut Looks) -> Ordering
     requires some { (D.num a.now).decimal.mantissa ≢ pos 0 }
     requires some_other { (D.num b.now).decimal.mantissa ≢ pos 0 }
@@ -138,15 +143,16 @@ fn compare_magnitudes<D: DigitRow>(a: &D, b: &D, looks: &mut Looks) -> Ordering
     }
 }
 
-/// Compares two numbers by value. The decimal point is ignored.
+/// Compares two numbers by value: `2` and `2.0` are equal.
 ///
-/// The inspections must stay below 2^128.
+/// Requires that the count of `looks` remains below `2 ^ 128`.
 ///
 /// # Cost
 ///
-/// Reads digits only if the signs and the leading places are equal, and then at most 2 n, where n is the smaller number of digits.
-/// `1e1000000000` and `2` have different leading places, so no digit is read. Does not allocate, and does not expand exponents
-/// to zeros.
+/// Reads digits only if both numbers have the same `sign` and the same `lead`. Reads at most
+/// `2 * n` digits, where `n` is the smaller number of digits. For example, `1e1000000000` and `2`
+/// differ in `lead`, so no digits are read. Does not allocate, and does not expand exponents to
+/// zeros.
 pub fn compare<D: DigitRow>(a: &D, b: &D, looks: &mut Looks) -> Ordering
     requires fits { NeedsDigits (D.num a.now).decimal (D.num b.now).decimal →
         looks.old + most_looks (D.num a.now).decimal (D.num b.now).decimal < 2 ^ 128 }

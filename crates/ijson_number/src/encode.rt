@@ -1,4 +1,4 @@
-//! Chooses the representation of a number: a word, or digits in a block or a list.
+//! Chooses the representation of a number: a word, digits in a block, or digits in a list.
 ghost use Rattle.std.specs.Prelude.{◌≡◌, ◌≢◌, ◌*◌, ◌%◌, ◌+◌, ◌^◌, ◌<◌, ◌≤◌, ◌⊎◌, ◌*ℤ◌, ◌<ℤ◌, ◌≤ℤ◌, pos, length, FitsSigned, true, false, IfOk, IfSome, IfNone, IsSome, IsTrue, OnErr};
 ghost use mir.Syntax.{w16};
 ghost use Rattle.ijson_number.specs.Decimal.{Decimal, IsPlain};
@@ -51,7 +51,7 @@ fn with_sign(negative: bool, magnitude: u64) -> i128
     }
 }
 
-/// Returns the word of an integer by its sign and magnitude, if it fits one.
+/// Returns the representation of an integer that fits a word, and `None` otherwise.
 #[inline(always)]
 fn encode_integer(negative: bool, magnitude: u64) -> Option<Stored>
     ensures word { IfSome result (λ s. (n : Decimal) → stored_form s ≡ integer_form n (signed negative magnitude)) }
@@ -75,9 +75,10 @@ fn encode_integer(negative: bool, magnitude: u64) -> Option<Stored>
 }
 
 impl Significand {
-    /// Returns the word of a common number, if it fits one.
+    /// Returns a common number as a packed word, or `None` if it is not common.
     ///
-    /// Most numbers with a decimal point are common: they have at most seven fraction digits and a magnitude below 2^55.
+    /// Most numbers with a decimal point are common: they have at most seven fraction digits and a
+    /// magnitude below `2 ^ 55`.
     #[inline(always)]
     fn common_word(self) -> Option<Stored>
         requires point { self.point ≡ true }
@@ -92,7 +93,7 @@ impl Significand {
         Some(Stored::Packed(Word::pointed(mantissa, self.exponent as i8)))
     }
 
-    /// Returns `magnitude * 10^zeros`, if it fits a `u64`.
+    /// Returns `magnitude * 10 ^ zeros`, or `None` if it does not fit a `u64`.
     fn scaled(self, zeros: usize) -> Option<u64>
         ensures some { IfSome result (λ m. m ≡ self.magnitude * 10 ^ zeros) }
         ensures none { IfNone result (2 ^ 64 ≤ self.magnitude * 10 ^ zeros) }
@@ -106,7 +107,7 @@ impl Significand {
         self.magnitude.checked_mul(10u64.pow(zeros as u32))
     }
 
-    /// Returns the signed `magnitude * 10^zeros`, if it fits a packed word.
+    /// Returns the signed `magnitude * 10 ^ zeros`, or `None` if it does not fit a packed word.
     fn packed_mantissa(self, zeros: usize) -> Option<i64>
         ensures some { IfSome result (λ m. m ≡ signed self.negative self.magnitude *ℤ pos (10 ^ zeros)) }
         ensures fits { IfSome result (λ m. IsTrue (fits_packed m)) }
@@ -121,9 +122,10 @@ impl Significand {
         }
     }
 
-    /// Returns the packed word of a canonical whole number with a decimal point, if it fits one.
+    /// Returns the packed word of a canonical integer that has a decimal point, or `None` if it
+    /// does not fit.
     ///
-    /// Its exponent is the smallest possible.
+    /// The word has the smallest exponent for which the mantissa fits.
     fn whole_word(self) -> Option<Stored>
         requires plain { IsPlain (canonical_number self) }
         requires point { self.point ≡ true }
@@ -142,7 +144,7 @@ impl Significand {
         None
     }
 
-    /// Returns the word of a canonical number, if it fits one.
+    /// Returns the representation of a canonical number that fits a word, and `None` otherwise.
     fn word(self) -> Option<Stored>
         requires { IsPlain (canonical_number self) }
         ensures word { IfSome result (λ s. stored_form s ≡ form_of (canonical_number self)) }
@@ -163,7 +165,8 @@ impl Significand {
 
     /// Stores the digits of a canonical number in a block.
     ///
-    /// Boxed here, since a returned `ShortNumber` would be written to memory in parts and read back.
+    /// The block is boxed here, because a returned `ShortNumber` would be written to memory in
+    /// parts and read back.
     #[inline(always)]
     fn block(self, alloc: Global, exponent: i16) -> Result<Stored, AllocError>
         requires exponent { exponent ≡ self.exponent }
@@ -182,10 +185,10 @@ impl Significand {
     }
 }
 
-/// Returns the representation of a number that is no common word.
+/// Returns the representation of a number for which `common_word` returned `None`.
 ///
-/// Not inlined: the locals of a longer function are zeroed for every number. Its arguments are scalars, since a `Significand` would be
-/// written to memory and read back.
+/// Not inlined, because the locals of a longer function are zeroed for every number. The parameters
+/// are scalars, because a `Significand` would be written to memory and read back.
 #[inline(never)]
 fn encode_other(
     alloc: Global,
@@ -215,7 +218,9 @@ fn encode_other(
     canonical.block(alloc, canonical.exponent as i16)
 }
 
-/// Calls `encode_other`. Inlined, so that the return slot of the call is zeroed only for these numbers.
+/// Calls `encode_other`.
+///
+/// Inlined, so that the return slot of the call is zeroed only for numbers that need the call.
 #[inline(always)]
 fn encode_wide(alloc: Global, significand: Significand) -> Result<Stored, AllocError>
     requires small { IsSmall significand }
@@ -233,7 +238,7 @@ fn encode_wide(alloc: Global, significand: Significand) -> Result<Stored, AllocE
     Ok(stored)
 }
 
-/// Returns the representation of a number that the fast reader read.
+/// Returns the representation of a number that the fast reader has read.
 #[inline(always)]
 pub fn encode(alloc: Global, significand: Significand) -> Result<Stored, AllocError>
     requires { IsSmall significand }
@@ -273,7 +278,7 @@ fn encode_list(alloc: Global, spelling: &CanonicalSpelling<'_>) -> Result<Stored
     Ok(Stored::Long(long))
 }
 
-/// Returns the representation of a number that the general reader read.
+/// Returns the representation of a number that the general reader has read.
 pub fn encode_spelling(
     alloc: Global,
     spelling: &CanonicalSpelling<'_>,

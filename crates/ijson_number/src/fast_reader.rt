@@ -1,4 +1,5 @@
-//! Reads a leading number of at most 19 digits, with no exponent or one of at most four digits, in one pass.
+//! Reads the most common leading numbers in one pass: at most 19 digits, and an exponent of at most
+//! four digits.
 ghost use Rattle.std.specs.Prelude.{◌≡◌, ◌≢◌, ◌++◌, ◌+◌, ◌-◌, ◌*◌, ◌^◌, ◌<◌, ◌≤◌, List, ℕ, length, IfNone, IfSome, IsFalse, IsTrue};
 ghost use Rattle.ijson_number.specs.private.CommonFront.{EndsToken, IsCommonFront, IsExponentTail};
 ghost use Rattle.ijson_number.specs.Grammar.{Parts};
@@ -11,15 +12,15 @@ use crate::repr::stored::WORD_DIGITS;
 use crate::significand::Significand;
 use std::simd::prelude::*;
 
-/// Fewer digits are read one by one rather than by a vector.
+/// The minimum number of digits for which a vector is faster than a loop.
 const FEW: usize = 3;
 
-/// The maximum number of exponent digits that this pass reads.
+/// The maximum number of exponent digits that the fast reader reads.
 const EXPONENT_DIGITS: usize = 4;
 
-/// Appends up to `most` leading digits to `number`, one by one.
+/// Appends up to `most` leading digits of `bytes` to `number`, in a loop.
 ///
-/// Returns the result and how many digits were read.
+/// Returns the result and the number of digits read.
 #[inline(always)]
 pub fn take_digits(number: u64, bytes: &[u8], most: usize) -> (u64, usize)
     requires { (number + 1) * 10 ^ most ≤ 10 ^ 19 }
@@ -33,7 +34,7 @@ pub fn take_digits(number: u64, bytes: &[u8], most: usize) -> (u64, usize)
     (longer, count)
 }
 
-/// Like `take_digits`, with the digits of the first 16 bytes read as one vector, unless they are few.
+/// Like `take_digits`, but reads up to 16 digits as one vector, if there are at least `FEW`.
 #[inline(always)]
 fn take_lanes(number: u64, bytes: &[u8], most: usize) -> (u64, usize)
     requires { (number + 1) * 10 ^ most ≤ 10 ^ 19 }
@@ -55,9 +56,9 @@ fn take_lanes(number: u64, bytes: &[u8], most: usize) -> (u64, usize)
     (longest, LANES + more)
 }
 
-/// Returns the maximum number of fraction digits after `count` whole digits.
+/// Returns the maximum number of fraction digits that may follow `count` whole digits.
 ///
-/// There are at most 19 digits in total, not counting a single zero before the point.
+/// The total is at most 19 digits, not counting a single zero before the point.
 #[inline(always)]
 fn places_left(number: u64, count: usize) -> usize
     requires { count ≤ 19 }
@@ -71,9 +72,10 @@ fn places_left(number: u64, count: usize) -> usize
     }
 }
 
-/// Appends the digits after a leading point to `number`, which has `count` digits.
+/// Appends the fraction digits at the start of `bytes` to `number`, which has `count` digits.
 ///
-/// Returns the result, how many digits were read, and the text after them. `None` if no digit follows the point.
+/// Returns the result, the number of digits read, and the bytes after them. Returns `None` if a
+/// point is not followed by a digit.
 #[inline(always)]
 fn take_fraction(number: u64, count: usize, bytes: &[u8]) -> Option<(u64, usize, &[u8])>
     requires few { count ≤ 19 }
@@ -95,14 +97,14 @@ fn take_fraction(number: u64, count: usize, bytes: &[u8]) -> Option<(u64, usize,
     Some((longer, scale, rest))
 }
 
-/// A leading number of a text, and its length in bytes.
+/// A number at the start of an input, and its length in bytes.
 #[derive(Clone, Copy)]
 pub struct Front {
     pub significand: Significand,
     pub length: usize,
 }
 
-/// Reads the sign, the whole part and the fraction, and returns the text after them.
+/// Reads the sign, the whole part and the fraction, and returns the bytes after them.
 #[inline(always)]
 fn read_mantissa(text: &[u8]) -> Option<(Front, &[u8])>
     ensures found { IfSome result (λ r. IsMantissa text.now r.0 r.1.now) }
@@ -130,7 +132,8 @@ fn read_mantissa(text: &[u8]) -> Option<(Front, &[u8])>
     Some((front, rest))
 }
 
-/// Returns `true` if the text continues with a digit or a letter, so no number ends before it.
+/// Returns `true` if `bytes` begins with a digit or a letter, so that a number cannot end before
+/// `bytes`.
 #[inline(always)]
 fn continues_token(bytes: &[u8]) -> bool
     ensures on { IsTrue result → EndsToken bytes.now → ⊥ }
@@ -142,9 +145,10 @@ fn continues_token(bytes: &[u8]) -> bool
     }
 }
 
-/// Reads an exponent of at most four digits that ends the token, and returns its length in bytes.
+/// Reads an exponent of at most four digits, and returns its value and its length in bytes.
 ///
-/// Not inlined: few numbers have one.
+/// Returns `None` if a digit or a letter follows the exponent. Not inlined, because few numbers
+/// have an exponent.
 #[inline(never)]
 fn read_exponent(bytes: &[u8]) -> Option<(i32, usize)>
     ensures power { IfSome result (λ r. IsPower bytes.now r.0 r.1) }
@@ -168,7 +172,7 @@ fn read_exponent(bytes: &[u8]) -> Option<(i32, usize)>
 
 /// Adds the exponent at the start of `rest` to the exponent of `front`.
 ///
-/// Returns `None` if `read_exponent` does. The exponent of zero is 0.
+/// Returns `None` if `read_exponent` does. The exponent of zero is set to 0.
 ///
 /// Inlined, so that the return slot of `read_exponent` is zeroed only if there is an exponent.
 #[inline(always)]
@@ -183,7 +187,7 @@ fn with_exponent(front: Front, rest: &[u8]) -> Option<Front>
 {
     let (power, length) = read_exponent(rest)?;
     let mantissa = front.significand;
-    // stripping a zero with the exponent -n would take n steps
+    // Stripping trailing zeros of 0 with the exponent `-n` would take `n` steps.
     let exponent = if mantissa.magnitude == 0 {
         0
     } else {
@@ -200,7 +204,10 @@ fn with_exponent(front: Front, rest: &[u8]) -> Option<Front>
     })
 }
 
-/// Reads a common leading number: few digits, a short exponent, and no digit or letter after it.
+/// Reads a leading number of up to 19 digits with an optional exponent of up to four digits.
+///
+/// Returns `None` if `text` does not begin with such a number, or if a digit or a letter follows
+/// the number.
 #[inline(always)]
 pub fn read_common(text: &[u8]) -> Option<Front>
     ensures found { IfSome result (IsFront text.now) }

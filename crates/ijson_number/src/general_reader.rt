@@ -17,10 +17,12 @@ ghost use Rattle.ijson_number.specs.private.Stripped.{digits_from_text};
 use crate::grammar::{split_digits, split_exponent_sign, split_sign};
 use crate::significand::Significand;
 
-/// Larger than any exponent within the limit requires, whatever the length of the text.
+/// The cap on the absolute value of a written exponent.
+///
+/// A capped exponent is out of range, however many digits the input has.
 const CAP: u128 = 1 << 80;
 
-/// Trims leading zeros.
+/// Returns `digits` without leading zeros.
 fn trim_leading_zeros(digits: &[u8]) -> &[u8]
     ensures zeros { digits.now
         ≡ replicate (length digits.now - length result.now) 48 ++ result.now }
@@ -33,7 +35,7 @@ fn trim_leading_zeros(digits: &[u8]) -> &[u8]
     &digits[count..]
 }
 
-/// Trims trailing zeros.
+/// Returns `digits` without trailing zeros.
 fn trim_trailing_zeros(digits: &[u8]) -> &[u8]
     ensures zeros { digits.now
         ≡ result.now ++ replicate (length digits.now - length result.now) 48 }
@@ -46,7 +48,9 @@ fn trim_trailing_zeros(digits: &[u8]) -> &[u8]
     &digits[..end]
 }
 
-/// Splits off the whole part: a zero, or all leading digits. `None` if the text begins with no digit.
+/// Splits off the whole part: a zero, or all leading digits.
+///
+/// Returns `None` if `bytes` does not begin with a digit.
 fn split_whole(bytes: &[u8]) -> Option<(&[u8], &[u8])>
     ensures some { IfSome result (λ r. IsWholeRead bytes.now r.0.now r.1.now) }
     ensures none { IfNone result (BeginsWithNoDigit bytes.now) }
@@ -61,7 +65,9 @@ fn split_whole(bytes: &[u8]) -> Option<(&[u8], &[u8])>
     Some((digits, rest))
 }
 
-/// Splits off a fraction, if there is one. `Err` with the text after the point if no digit follows it.
+/// Splits off the digits of a fraction, if `bytes` begins with a point.
+///
+/// Returns `Err` with the bytes after the point if no digit follows it.
 fn split_fraction(bytes: &[u8]) -> Result<(&[u8], &[u8]), &[u8]>
     ensures ok { IfOk result (λ r. IsFractionRead bytes.now r.0.now r.1.now) }
     ensures err { IfErr result (λ rest. (bytes.now ≡ 46 ∷ rest.now) × BeginsWithNoDigit rest.now) }
@@ -76,7 +82,9 @@ fn split_fraction(bytes: &[u8]) -> Result<(&[u8], &[u8]), &[u8]>
     Ok((digits, rest))
 }
 
-/// Splits an exponent, if there is one, into its sign and its digits. `Err` with the text after the sign if no digit follows it.
+/// Splits off the sign and the digits of an exponent, if `bytes` begins with `e` or `E`.
+///
+/// Returns `Err` with the bytes after the sign if no digit follows it.
 fn split_exponent(bytes: &[u8]) -> Result<(bool, &[u8], &[u8]), &[u8]>
     ensures ok { IfOk result (λ r. IsExponentRead bytes.now r.0 r.1.now r.2.now) }
     ensures err { IfErr result (λ rest. IsExponentCut bytes.now rest.now) }
@@ -92,7 +100,8 @@ fn split_exponent(bytes: &[u8]) -> Result<(bool, &[u8], &[u8]), &[u8]>
     Ok((negative, digits, rest))
 }
 
-/// The part after the whole digits: the fraction digits, and the sign and the digits of the exponent.
+/// The part of a number after the whole digits: fraction digits, and the sign and the digits of the
+/// exponent.
 #[derive(Clone, Copy)]
 pub struct Tail<'a> {
     pub fraction: &'a [u8],
@@ -101,9 +110,9 @@ pub struct Tail<'a> {
     pub point: bool,
 }
 
-/// Reads a fraction and an exponent, if present; returns them and the remaining bytes.
+/// Reads a fraction and an exponent, if present, and returns them and the remaining bytes.
 ///
-/// Returns `Err` with the bytes from the missing digit on.
+/// If a digit is missing, returns `Err` with the bytes from where it was expected.
 #[inline(always)]
 fn read_tail(bytes: &[u8]) -> Result<(Tail<'_>, &[u8]), &[u8]>
     ensures ok { IfOk result (λ r. IsTailRead bytes.now r.0 r.1.now) }
@@ -120,7 +129,7 @@ fn read_tail(bytes: &[u8]) -> Result<(Tail<'_>, &[u8]), &[u8]>
     Ok((tail, rest))
 }
 
-/// The parts of a number's text.
+/// The parts of a number as slices of the input.
 #[derive(Clone, Copy)]
 pub struct Spelling<'a> {
     pub negative: bool,
@@ -128,9 +137,10 @@ pub struct Spelling<'a> {
     pub tail: Tail<'a>,
 }
 
-/// Reads the leading number into its parts, and returns the text after it.
+/// Splits the leading number into its parts, and returns the bytes after it.
 ///
-/// Returns `Err` with the text that cannot continue a number, if the bytes before it are not one.
+/// If `text` does not begin with a number, returns `Err` with the bytes from the first byte on that
+/// cannot continue a number.
 #[inline(always)]
 pub fn read_spelling(text: &[u8]) -> Result<(Spelling<'_>, &[u8]), &[u8]>
     ensures ok { IfOk result (λ r. IsSpellingRead text.now r.0 r.1.now) }
@@ -149,7 +159,7 @@ pub fn read_spelling(text: &[u8]) -> Result<(Spelling<'_>, &[u8]), &[u8]>
     Ok((spelling, rest))
 }
 
-/// Returns `true` if the whole text spells a number, however large its exponent.
+/// Returns `true` if all of `text` is a JSON number, however large its exponent.
 pub fn is_spelling(text: &[u8]) -> bool
     ensures { IsTrue result ↔ ((n : Decimal) × Spells text.now n) }
 {
@@ -159,7 +169,7 @@ pub fn is_spelling(text: &[u8]) -> bool
     }
 }
 
-/// Strips leading zeros of digits in two pieces.
+/// Strips leading zeros from digits that are stored in two slices.
 fn strip_front<'a>(whole: &'a [u8], fraction: &'a [u8]) -> (&'a [u8], &'a [u8])
     ensures zeros { (zeros : ℕ)
         × whole.now ++ fraction.now ≡ replicate zeros 48 ++ (result.0.now ++ result.1.now) }
@@ -173,7 +183,7 @@ fn strip_front<'a>(whole: &'a [u8], fraction: &'a [u8]) -> (&'a [u8], &'a [u8])
     }
 }
 
-/// Strips trailing zeros of digits in two pieces.
+/// Strips trailing zeros from digits that are stored in two slices.
 fn strip_back<'a>(front: &'a [u8], back: &'a [u8]) -> (&'a [u8], &'a [u8])
     ensures zeros { let off_front = length front.now - length result.0.now in
         let off_back = length back.now - length result.1.now in
@@ -202,10 +212,10 @@ fn capped(digits: &[u8]) -> u128
     number
 }
 
-/// The maximum canonical exponent; this project's own limit.
+/// The maximum absolute value of a canonical exponent. The limit is this project's own.
 const EXPONENT_LIMIT: i128 = 1 << 30;
 
-/// Returns the written exponent, clamped to the cap on both sides.
+/// Returns the written exponent, with its absolute value capped at `CAP`.
 fn written_exponent(tail: &Tail<'_>) -> i128
     requires { AllDigits tail.now.exponent.now }
     ensures { result ≡ signed tail.now.negative (min (value tail.now.exponent.now) CAP) }
@@ -216,7 +226,8 @@ fn written_exponent(tail: &Tail<'_>) -> i128
 
 /// Returns the canonical exponent, or `None` if it exceeds the limit.
 ///
-/// It is the written exponent minus the number of fraction digits, plus `tens` trailing zeros.
+/// The canonical exponent is the written exponent minus the number of fraction digits, plus `tens`,
+/// the number of stripped trailing zeros.
 fn canonical_exponent(tail: &Tail<'_>, tens: u128) -> Option<i32>
     requires digits { AllDigits tail.now.exponent.now }
     requires tens { tens < 2 ^ 65 }
@@ -233,7 +244,7 @@ fn canonical_exponent(tail: &Tail<'_>, tens: u128) -> Option<i32>
     Some(exponent as i32)
 }
 
-/// The canonical digits of a number, in two pieces of its text, and its exponent within the limit.
+/// A number with canonical digits, as two slices of the input, and an exponent within the limit.
 #[derive(Clone, Copy)]
 pub struct CanonicalSpelling<'a> {
     pub negative: bool,
@@ -244,7 +255,8 @@ pub struct CanonicalSpelling<'a> {
 }
 
 impl<'a> Spelling<'a> {
-    /// Strips leading and trailing zeros. `None` if the canonical exponent exceeds the limit.
+    /// Strips leading and trailing zeros. Returns `None` if the canonical exponent exceeds the
+    /// limit.
     pub fn canonical(&self) -> Option<CanonicalSpelling<'a>>
         requires spelled { (text : List ℕ) × IsSpelled text (parts_of self.now) }
         requires digits { AllDigits self.now.tail.exponent.now }
@@ -279,7 +291,7 @@ impl<'a> Spelling<'a> {
     }
 }
 
-/// Appends the digits to `number`, if the result fits a `u64`.
+/// Appends the digits to `number`, or returns `None` if the result does not fit a `u64`.
 fn append_digits(number: u64, digits: &[u8]) -> Option<u64>
     requires { AllDigits digits.now }
     ensures some { IfSome result (λ n. n ≡ number_from_digits_after 10 number (digits_from_text digits.now)) }
@@ -295,7 +307,7 @@ fn append_digits(number: u64, digits: &[u8]) -> Option<u64>
 }
 
 impl CanonicalSpelling<'_> {
-    /// Returns the number by its magnitude, if that fits a `u64`.
+    /// Returns the number as a `Significand`, or `None` if its magnitude does not fit a `u64`.
     pub fn significand(&self) -> Option<Significand>
         requires { IsCanonicalSpelling self.now }
         ensures some { IfSome result (λ s. canonical_number s ≡ spelled_number self.now) }

@@ -1,9 +1,10 @@
-//! The small pieces of a number's text, for both readers.
+//! Splits signs and digits off the input, for both readers.
 ghost use Rattle.std.specs.Prelude.{◌≡◌, ◌++◌, ◌↔◌, IsTrue};
 ghost use Rattle.ijson_number.specs.Grammar.{AllDigits, IsWhole};
 ghost use Rattle.ijson_number.specs.private.Reading.{BeginsWithNoDigit, IsExponentSignTaken, IsSignTaken};
 
-/// Splits off the sign of an exponent.
+/// Splits off an optional leading `+` or `-`. Returns `true` if the sign is `-`, and the remaining
+/// bytes.
 pub fn split_exponent_sign(number: &[u8]) -> (bool, &[u8])
     ensures { IsExponentSignTaken number.now result.0 result.1.now }
 {
@@ -14,7 +15,8 @@ pub fn split_exponent_sign(number: &[u8]) -> (bool, &[u8])
     }
 }
 
-/// Splits off a leading minus.
+/// Splits off an optional leading `-`. Returns `true` if the sign is present, and the remaining
+/// bytes.
 pub fn split_sign(text: &[u8]) -> (bool, &[u8])
     ensures { IsSignTaken text.now result.0 result.1.now }
 {
@@ -24,7 +26,8 @@ pub fn split_sign(text: &[u8]) -> (bool, &[u8])
     }
 }
 
-/// Returns `true` if the digits are a whole part: one digit, or more without a leading zero.
+/// Returns `true` if the digits are the whole part of a JSON number: one digit, or more without a
+/// leading zero.
 pub fn is_whole(digits: &[u8]) -> bool
     requires { AllDigits digits.now }
     ensures { IsTrue result ↔ IsWhole digits.now }

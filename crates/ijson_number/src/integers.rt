@@ -30,18 +30,18 @@ impl INumber {
     ghost use Rattle.ijson_number.specs.Integers.{integer};
     ghost use Rattle.ijson_number.specs.Order.{number_cmp};
 
-    /// Compares the value with an integer. Does not allocate.
+    /// Compares the value with an `i64`. Does not allocate.
     ///
-    /// `number.cmp_i64(10).is_gt()` holds for `10.5`, and `is_eq()` for `10.0`.
+    /// For example, `number.cmp_i64(10)` returns `Greater` for `10.5` and `Equal` for `10.0`.
     pub fn cmp_i64(&self, value: i64) -> Ordering
         ensures { result ≡ number_cmp self.now.decimal (integer value) }
     {
         self.cmp(&INumber::from(value))
     }
 
-    /// Compares the value with an integer. Does not allocate.
+    /// Compares the value with a `u64`. Does not allocate.
     ///
-    /// Like `cmp_i64`.
+    /// For example, `number.cmp_u64(10)` returns `Greater` for `10.5` and `Equal` for `10.0`.
     pub fn cmp_u64(&self, value: u64) -> Ordering
         ensures { result ≡ number_cmp self.now.decimal (integer (pos value)) }
     {
@@ -165,7 +165,7 @@ fn number_of_digits(digits: &[u8]) -> u128
     number
 }
 
-/// Returns the value of the digits times `10^zeros`.
+/// Returns the value of the digits times `10 ^ zeros`.
 fn scaled(digits: &[u8], zeros: usize) -> u128
     requires below_ten { All (λ d. d < 10) digits.now }
     requires fits { length digits.now + zeros ≤ 20 }
@@ -178,7 +178,8 @@ fn scaled(digits: &[u8], zeros: usize) -> u128
 impl StrippedNumber<'_> {
     ghost use Rattle.ijson_number.specs.private.StrippedNumber.{decimal_of};
 
-    /// Returns the significand times `10^zeros`, if the product's absolute value is below 10^20.
+    /// Returns the significand times `10 ^ zeros`, or `None` if its absolute value is `10 ^ 20` or
+    /// more.
     fn mantissa_with(&self, zeros: usize) -> Option<i128>
         ensures some { IfSome result (λ m. m ≡ (decimal_of self.now).mantissa *ℤ pos (10 ^ zeros)) }
         ensures small { IfSome result (λ m. nat_abs m < 10 ^ 20) }
@@ -195,7 +196,8 @@ impl StrippedNumber<'_> {
         Some(if self.negative { -magnitude } else { magnitude })
     }
 
-    /// Returns the value, if it is whole and its absolute value is below 10^20.
+    /// Returns the value if it is an integer whose absolute value is below `10 ^ 20`, and `None`
+    /// otherwise.
     fn whole(&self) -> Option<i128>
         ensures some { IfSome result (λ z. HasValue (decimal_of self.now) z) }
         ensures small { IfSome result (λ z. nat_abs z < 10 ^ 20) }
@@ -210,7 +212,8 @@ impl StrippedNumber<'_> {
 }
 
 impl INumber {
-    /// Returns the value, if it is whole and its absolute value is below 10^20.
+    /// Returns the value if it is an integer whose absolute value is below `10 ^ 20`, and `None`
+    /// otherwise.
     fn whole(&self) -> Option<i128>
         ensures some { IfSome result (λ z. HasValue self.now.decimal z) }
         ensures small { IfSome result (λ z. nat_abs z < 10 ^ 20) }
@@ -225,9 +228,10 @@ impl INumber {
         }
     }
 
-    /// Returns the value if it is a whole number in the range of `i64`, and `None` otherwise.
+    /// Returns the value if it is an integer in the range of `i64`, and `None` otherwise.
     ///
-    /// The decimal point is ignored: `2.0` and `20e-1` are 2. Takes constant time and does not allocate.
+    /// For example, returns 2 for `2`, `2.0` and `20e-1`. Takes constant time and does not
+    /// allocate.
     pub fn to_i64(&self) -> Option<i64>
         ensures some { IfSome result (λ z. HasValue self.now.decimal z) }
         ensures none { IfNone result
@@ -236,9 +240,10 @@ impl INumber {
         i64::try_from(self.whole()?).ok()
     }
 
-    /// Returns the value if it is a whole number in the range of `i32`, and `None` otherwise.
+    /// Returns the value if it is an integer in the range of `i32`, and `None` otherwise.
     ///
-    /// Like `to_i64`, ignores the decimal point, takes constant time and does not allocate.
+    /// For example, returns 2 for `2`, `2.0` and `20e-1`. Takes constant time and does not
+    /// allocate.
     pub fn to_i32(&self) -> Option<i32>
         ensures some { IfSome result (λ z. HasValue self.now.decimal z) }
         ensures none { IfNone result
@@ -247,9 +252,10 @@ impl INumber {
         i32::try_from(self.whole()?).ok()
     }
 
-    /// Returns the value if it is a whole number in the range of `isize`, and `None` otherwise.
+    /// Returns the value if it is an integer in the range of `isize`, and `None` otherwise.
     ///
-    /// Like `to_i64`, ignores the decimal point, takes constant time and does not allocate.
+    /// For example, returns 2 for `2`, `2.0` and `20e-1`. Takes constant time and does not
+    /// allocate.
     pub fn to_isize(&self) -> Option<isize>
         ensures some { IfSome result (λ z. HasValue self.now.decimal z) }
         ensures none { IfNone result
@@ -258,9 +264,10 @@ impl INumber {
         isize::try_from(self.whole()?).ok()
     }
 
-    /// Returns the value if it is a whole number in the range of `u64`, and `None` otherwise.
+    /// Returns the value if it is an integer in the range of `u64`, and `None` otherwise.
     ///
-    /// Like `to_i64`, ignores the decimal point, takes constant time and does not allocate.
+    /// For example, returns 2 for `2`, `2.0` and `20e-1`. Takes constant time and does not
+    /// allocate.
     pub fn to_u64(&self) -> Option<u64>
         ensures some { IfSome result (λ n. HasValue self.now.decimal (pos n)) }
         ensures none { IfNone result
@@ -269,9 +276,10 @@ impl INumber {
         u64::try_from(self.whole()?).ok()
     }
 
-    /// Returns the value if it is a whole number in the range of `u32`, and `None` otherwise.
+    /// Returns the value if it is an integer in the range of `u32`, and `None` otherwise.
     ///
-    /// Like `to_i64`, ignores the decimal point, takes constant time and does not allocate.
+    /// For example, returns 2 for `2`, `2.0` and `20e-1`. Takes constant time and does not
+    /// allocate.
     pub fn to_u32(&self) -> Option<u32>
         ensures some { IfSome result (λ n. HasValue self.now.decimal (pos n)) }
         ensures none { IfNone result
@@ -280,9 +288,10 @@ impl INumber {
         u32::try_from(self.whole()?).ok()
     }
 
-    /// Returns the value if it is a whole number in the range of `usize`, and `None` otherwise.
+    /// Returns the value if it is an integer in the range of `usize`, and `None` otherwise.
     ///
-    /// Like `to_i64`, ignores the decimal point, takes constant time and does not allocate.
+    /// For example, returns 2 for `2`, `2.0` and `20e-1`. Takes constant time and does not
+    /// allocate.
     pub fn to_usize(&self) -> Option<usize>
         ensures some { IfSome result (λ n. HasValue self.now.decimal (pos n)) }
         ensures none { IfNone result

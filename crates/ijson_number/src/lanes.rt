@@ -1,4 +1,5 @@
-//! Digits in 16-byte vectors: counts leading digits, converts between digits and integers, and appends digits.
+//! Digits in 16-byte vectors: counts leading digits, converts between digits and integers, and
+//! appends digits.
 ghost use Rattle.std.specs.Prelude.{◌≡◌, ◌+◌, ◌-◌, ◌/◌, ◌%◌, ◌^◌, ◌<◌, ◌≤◌, [], ◌∷◌, ◌++◌, drop, length, replicate, take, OnErr, OnOk};
 ghost use Rattle.std.specs.Int.Digits.{AllBelowBase, number_from_digits};
 ghost use Rattle.std.specs.Str.{IsAscii};
@@ -16,16 +17,18 @@ use std::str;
 /// The number of bytes in a vector.
 pub const LANES: usize = 16;
 
-/// From index `n` on: the indices that move the first `n` lanes to the end of a vector, after zeros.
+/// A table of shuffle indices. From index `n` on, it moves the first `n` lanes to the end of a
+/// vector, after zeros.
 static BACK: [u8; 2 * LANES] = [
     128, 128, 128, 128, 128, 128, 128, 128, 128, 128, 128, 128, 128, 128, 128, 128, 0, 1, 2, 3, 4,
     5, 6, 7, 8, 9, 10, 11, 12, 13, 14, 15,
 ];
 
-/// The weight of each byte of two pairs, whose upper bytes do not count.
+/// The weights that combine two pairs of digits to a four-digit number. The upper byte of each lane
+/// is ignored.
 const PAIRS: [u8; LANES] = [100, 0, 1, 0, 100, 0, 1, 0, 100, 0, 1, 0, 100, 0, 1, 0];
 
-/// The powers of ten by their exponent.
+/// The powers of ten, indexed by their exponent.
 static POWERS: [u64; LANES + 1] = [
     1,
     10,
@@ -46,7 +49,7 @@ static POWERS: [u64; LANES + 1] = [
     10_000_000_000_000_000,
 ];
 
-/// Returns `10^count`.
+/// Returns `10 ^ count`.
 #[inline(always)]
 pub fn power_of_ten(count: usize) -> u64
     requires { count ≤ 16 }
@@ -77,7 +80,7 @@ fn number_of_lanes(digits: u8x16) -> u64
     ensures { result ≡ number_from_digits 10 digits }
 {
     let twos = u16x8::from_le_bytes(digits);
-    // the lower byte of each lane is a pair
+    // The lower byte of each 16-bit lane is the value of two digits.
     let pairs = (twos * u16x8::splat(10) + (twos >> 8)).to_le_bytes();
     let [a, b, c, d] = pairs.dot4(u8x16::from_array(PAIRS)).to_array();
     let front = u64::from(a) * 10_000 + u64::from(b);
@@ -94,36 +97,38 @@ pub fn number_of(bytes: u8x16, count: usize) -> u64
     ensures { result ≡ value (take count bytes) }
 {
     let digits = bytes - u8x16::splat(b'0');
-    // moved to the end, after zeros
+    // Moves the digits to the end, after zeros, which do not change the value.
     number_of_lanes(digits.swizzle_dyn(u8x16::from_slice(&BACK[count..])))
 }
 
-/// One past the maximum number of 16 digits.
+/// One past the largest integer of 16 digits.
 pub const LANES_END: u64 = 10_000_000_000_000_000;
 
-/// One past the maximum number of 15 digits, whose vector has a leading zero.
+/// One past the largest integer of 15 digits. A 16-digit vector of a smaller integer has a leading
+/// zero.
 pub const SHORT_END: u64 = LANES_END / 10;
 
-/// The size of a minus, two vectors and the point between them.
+/// The size of a minus sign, two vectors and the point between them.
 const ROOM: usize = 2 * LANES + 2;
 
-/// From index `n` on: the indices that move the lanes from `n` on to the start of a vector, before zeros.
+/// A table of shuffle indices. From index `n` on, it moves the lanes from `n` on to the start of a
+/// vector, before zeros.
 static FRONT: [u8; 2 * LANES] = [
     0, 1, 2, 3, 4, 5, 6, 7, 8, 9, 10, 11, 12, 13, 14, 15, 128, 128, 128, 128, 128, 128, 128, 128,
     128, 128, 128, 128, 128, 128, 128, 128,
 ];
 
-/// The text before the digits of a number between -1 and 1: a minus, `0.`, and zeros.
+/// The text before the first nonzero digit of a number between -1 and 1: `-0.` and zeros.
 const LEADING: [u8; LANES] = *b"-0.0000000000000";
 
-/// Splits a number of 16 digits into pairs, one in each lane.
+/// Splits a number of up to 16 digits into eight pairs of digits, one per lane.
 #[inline(always)]
 fn pairs_of(number: u64) -> u16x8
     requires { number < 10 ^ 16 }
     ensures { result ≡ number / 10 ^ 14 ∷ number / 10 ^ 12 % 100 ∷ number / 10 ^ 10 % 100 ∷ number / 10 ^ 8 % 100
         ∷ number / 10 ^ 6 % 100 ∷ number / 10 ^ 4 % 100 ∷ number / 10 ^ 2 % 100 ∷ number % 100 ∷ [] }
 {
-    // most numbers are small, and each division waits for the one before
+    // Most numbers are small, and divisions that depend on each other are slow.
     if number < 10_000 {
         let small = number as u16;
         return u16x8::from_array([0, 0, 0, 0, 0, 0, small / 100, small % 100]);
@@ -144,7 +149,7 @@ fn pairs_of(number: u64) -> u16x8
     hundreds.shuffle(units, [0, 8, 1, 9, 2, 10, 3, 11])
 }
 
-/// Returns the text of the last 16 digits of a number, with leading zeros if it has fewer.
+/// Returns the 16 digits of `number` in ASCII, with leading zeros.
 #[inline(always)]
 pub fn lanes_of(number: u64) -> u8x16
     requires { number < 10 ^ 16 }
@@ -152,12 +157,13 @@ pub fn lanes_of(number: u64) -> u8x16
 {
     let pairs = pairs_of(number);
     let tens = pairs / u16x8::splat(10);
-    // the tens are in the lower byte of each lane, and the ones in the upper
+    // The tens digits are in the lower byte of each 16-bit lane, and the units digits in the upper
+    // byte.
     let digits = ((pairs << 8) - tens * u16x8::splat(2559)).to_le_bytes();
     digits + u8x16::splat(b'0')
 }
 
-/// Returns the number of leading zeros, at most 15.
+/// Returns the number of leading `0` digits, at most 15.
 #[inline(always)]
 pub fn zeros_in_front(lanes: u8x16) -> usize
     requires { length lanes ≡ 16 }
@@ -167,7 +173,7 @@ pub fn zeros_in_front(lanes: u8x16) -> usize
     (others.trailing_zeros() as usize).min(LANES - 1)
 }
 
-/// Removes the lanes before `start` and fills the end with zeros.
+/// Removes the first `start` lanes, and appends `start` zero bytes.
 #[inline(always)]
 fn front_of(lanes: u8x16, start: usize) -> u8x16
     requires all { length lanes ≡ 16 }
@@ -177,7 +183,7 @@ fn front_of(lanes: u8x16, start: usize) -> u8x16
     lanes.swizzle_dyn(u8x16::from_slice(&FRONT[start..]))
 }
 
-/// Appends the first `count` of `bytes`.
+/// Appends the first `count` bytes of `bytes` to `out`.
 #[inline(always)]
 fn push_front(bytes: &[u8], count: usize, out: &mut String) -> Result<(), AllocError>
     requires ascii { IsAscii bytes.now }
@@ -186,13 +192,13 @@ fn push_front(bytes: &[u8], count: usize, out: &mut String) -> Result<(), AllocE
     ensures refused { OnErr result (string_bytes out.new ≡ string_bytes out.old) }
 {
     let end = out.len() + count;
-    // a copy whose size is known at compile time is faster
+    // Copies all bytes and truncates the string, because a copy of constant size is faster.
     out.push_str(unsafe { str::from_utf8_unchecked(bytes) })?;
     out.truncate(end);
     Ok(())
 }
 
-/// Appends `count` lanes, from `start` on.
+/// Appends `count` lanes to `out`, from `start` on.
 #[inline(always)]
 pub fn push_lanes(
     lanes: u8x16,
@@ -209,7 +215,7 @@ pub fn push_lanes(
     push_front(&front_of(lanes, start).to_array(), count, out)
 }
 
-/// Appends the minus, if there is one, `0.` and `zeros` zeros.
+/// Appends the minus sign if `negative`, then `0.` and `zeros` zeros.
 #[inline(always)]
 pub fn push_leading_zeros(negative: bool, zeros: usize, out: &mut String) -> Result<(), AllocError>
     requires { zeros ≤ 13 }
@@ -226,9 +232,10 @@ pub fn push_leading_zeros(negative: bool, zeros: usize, out: &mut String) -> Res
     )
 }
 
-/// Appends a number of at most 15 digits with its sign.
+/// Appends an integer of at most 15 digits with its sign.
 ///
-/// The minus replaces the zero before the digits by a subtraction: the branch predictor cannot predict a branch on the sign.
+/// A subtraction turns the zero before the digits into the minus sign, because the branch predictor
+/// cannot predict a branch on the sign.
 #[inline(always)]
 pub fn push_short(negative: bool, number: u64, out: &mut String) -> Result<(), AllocError>
     requires { number < 10 ^ 15 }
@@ -242,10 +249,11 @@ pub fn push_short(negative: bool, number: u64, out: &mut String) -> Result<(), A
     push_lanes(front_of(lanes, start) - difference, 0, LANES - start, out)
 }
 
-/// Appends the sign, a whole part, the point, and a fraction.
+/// Appends the sign, the whole part, the point and the fraction of a number.
 ///
-/// The whole part is `count` lanes of `whole` from `start` on, and the fraction the last `scale` lanes of `fraction`. All is assembled
-/// first and appended once, since each append tests for spare capacity.
+/// The whole part is `count` lanes of `whole` from `start` on. The fraction is the last `scale`
+/// lanes of `fraction`. All parts are appended in one call, because each append tests for spare
+/// capacity.
 #[inline(always)]
 pub fn push_rows(
     negative: bool,

@@ -1,7 +1,8 @@
 //! Exact decimals, as JSON writes numbers.
 //!
-//! Each module uses only those before it: `lanes`, `significand`, `repr::stored`, `repr`, `grammar`, `fast_reader`, `general_reader`, `encode`,
-//! `write_display`, `write_fast`, `comparison`, `number`, `integers`.
+//! Each module uses only those before it: `lanes`, `significand`, `repr::stored`, `repr`,
+//! `grammar`, `fast_reader`, `general_reader`, `encode`, `write_display`, `write_fast`,
+//! `comparison`, `number`, `integers`.
 #![tactic(auto)]
 
 mod comparison;

@@ -1,4 +1,4 @@
-//! Numbers: parsed, copied, hashed, compared, and as callers see their representation.
+//! Parses, copies, hashes and compares numbers, and returns their representation.
 ghost use Rattle.std.specs.Prelude.{◌≡◌, ◌↔◌, IfOk, IfErr, false, Some, refl};
 ghost use Rattle.std.specs.Cmp.{partial_equiv_from_equiv, on_equiv, on_total, po};
 ghost use Rattle.std.specs.List.{flat_map};
@@ -23,18 +23,18 @@ use std::cmp::Ordering;
 use std::hash::{Hash, Hasher};
 use thiserror::Error;
 
-/// Why a text is rejected.
+/// The error of parsing a number.
 #[derive(Clone, Copy, PartialEq, Eq, Debug, Drop, Error)]
 pub enum ParseNumberError {
-    /// The text spells no number, or one whose canonical exponent is out of range.
+    /// The input is not a JSON number, or its canonical exponent is out of range.
     #[error("not a JSON number, or its exponent is out of range")]
     Invalid,
-    /// The text spells a number, but the allocation for its digits failed.
+    /// The input is a number, but the allocation for its digits failed.
     #[error("out of memory")]
     Memory,
 }
 
-/// Converts to `Memory`.
+/// Converts an allocation error to `Memory`.
 impl From<AllocError> for ParseNumberError {
     ghost use Rattle.ijson_number.specs.declared.number.ParseNumberError.TheVariants.{Memory};
 
@@ -45,24 +45,24 @@ impl From<AllocError> for ParseNumberError {
     }
 }
 
-/// Why no number was read at the start of a text.
+/// The error of reading a number at the start of an input.
 #[derive(Clone, Copy, PartialEq, Eq, Debug, Drop, Error)]
 pub enum ReadNumberError {
-    /// The text begins with no number, or with one that breaks off.
+    /// The input does not begin with a complete number.
     ///
-    /// `at` is the offset of the first byte that cannot continue a number, or the length of a text
-    /// that ends too early.
+    /// `at` is the offset of the first byte that cannot continue a number, or the length of the
+    /// input if it ends too early.
     #[error("not a JSON number at byte {at}")]
     Syntax { at: usize },
     /// The canonical exponent of the leading number is out of range.
     #[error("exponent out of range")]
     OutOfRange,
-    /// The text begins with a number, but the allocation for its digits failed.
+    /// The input begins with a number, but the allocation for its digits failed.
     #[error("out of memory")]
     Memory,
 }
 
-/// Converts to `Memory`.
+/// Converts an allocation error to `Memory`.
 impl From<AllocError> for ReadNumberError {
     ghost use Rattle.ijson_number.specs.declared.number.ReadNumberError.TheVariants.{Memory};
 
@@ -78,7 +78,9 @@ impl INumber {
     ghost use Rattle.ijson_number.specs.NumberFront.{HasNoPoint, IsNumberFront, IsUnread};
     ghost use Rattle.ijson_number.specs.Refused.{IsRefused};
 
-    /// Reads the leading number by its parts. Not inlined, since few numbers need it.
+    /// Reads the leading number with the general reader.
+    ///
+    /// Not inlined, because few numbers need it.
     #[inline(never)]
     fn read_any(alloc: Global, text: &[u8]) -> Result<(INumber, usize), ReadNumberError>
         ensures front { IfOk result (λ f. IsNumberFront text.now f.1) }
@@ -101,7 +103,9 @@ impl INumber {
         Ok((INumber { stored }, text.len() - rest.len()))
     }
 
-    /// Calls `read_any`. Inlined, so that the return slot of the call is zeroed only for these numbers.
+    /// Calls `read_any`.
+    ///
+    /// Inlined, so that the return slot of the call is zeroed only for numbers that need the call.
     #[inline(always)]
     fn read_other(alloc: Global, text: &[u8]) -> Result<(INumber, usize), ReadNumberError>
         ensures front { IfOk result (λ f. IsNumberFront text.now f.1) }
@@ -113,31 +117,34 @@ impl INumber {
         Ok((number, length))
     }
 
-    /// Reads the leading number; returns it and its length in bytes.
+    /// Reads the number at the start of `text`, and returns it and its length in bytes.
     ///
-    /// It reads the longest prefix with which a number can begin: `1.5.5` gives 1.5 and `01` gives 0, but `1.x` fails.
+    /// The longest prefix that can begin a number is read: `1.5.5` is read as 1.5 and `01` as 0,
+    /// but `1.x` fails.
     ///
     /// # Errors
     ///
-    /// `Syntax` if the longest prefix with which a number can begin is not a number, with its length: 2 for `1.x`, 1 for `-`, 0 for an
-    /// empty text. `OutOfRange` if the canonical exponent is out of range. `Memory` if an allocation fails.
+    /// Returns `Syntax` if the longest prefix that can begin a number is not a number. Its `at` is
+    /// the length of the prefix: 2 for `1.x`, 1 for `-`, 0 for an empty input. Returns `OutOfRange`
+    /// if the canonical exponent is out of range, and `Memory` if an allocation fails.
     ///
     /// # Cost
     ///
-    /// Linear in the number, whatever the exponent. It allocates only if the number is stored as a list of digits.
+    /// Linear in the length of the number, whatever its exponent. Allocates only if the number is
+    /// stored as a list of digits.
     #[inline(always)]
     pub fn read_front(alloc: Global, text: &str) -> Result<(INumber, usize), ReadNumberError>
-        // Some number begins with the bytes read, and none with one byte more.
+        // The bytes read can begin a number, and with the next byte they cannot.
         ensures front { IfOk result (λ f. IsNumberFront text.now f.1) }
-        // They spell the number.
+        // The bytes read spell the number.
         ensures spelled { IfOk result (λ f. Spells (take f.1 text.now) f.0.decimal) }
-        // No point follows a number that was written without point and exponent.
+        // No point follows a number that was written without a point and an exponent.
         ensures point { IfOk result (λ f. HasNoPoint f.0.decimal.point (drop f.1 text.now)) }
-        // Why no number was read.
+        // If reading fails, the error states the reason.
         ensures err { IfErr result (λ e. IsUnread text.now e) }
     {
         let bytes = text.as_bytes();
-        // before the general reader, so that most numbers take one pass
+        // Most numbers are read in one pass, without the general reader.
         let Some(front) = read_common(bytes) else {
             return INumber::read_other(alloc, bytes);
         };
@@ -145,18 +152,20 @@ impl INumber {
         Ok((INumber { stored }, front.length))
     }
 
-    /// Parses the whole text as a number; white space around it is rejected.
+    /// Parses all of `text` as a number. White space before or after the number is rejected.
     ///
-    /// `1.50` and `15e-1` spell equal numbers.
+    /// `1.50` and `15e-1` are equal numbers.
     ///
     /// # Errors
     ///
-    /// `Invalid` if the text spells no number, or one whose canonical exponent is out of range: `01`, `+1`, `.5`, `1.`, ` 1` and
-    /// `1e2000000000`. `Memory` if an allocation fails.
+    /// Returns `Invalid` if `text` is not a JSON number, or its canonical exponent is out of range.
+    /// Examples are `01`, `+1`, `.5`, `1.`, ` 1` and `1e2000000000`. Returns `Memory` if an
+    /// allocation fails.
     ///
     /// # Cost
     ///
-    /// Linear in the length of the text, whatever the exponent. It allocates only if the form of the leading number is a list of digits.
+    /// Linear in the length of `text`, whatever the exponent. Allocates only if the leading number
+    /// is stored as a list of digits.
     pub fn from_str(alloc: Global, text: &str) -> Result<INumber, ParseNumberError>
         ensures ok { IfOk result (λ n. Spells text.now n.decimal) }
         ensures err { IfErr result (λ e. IsRefused text.now e) }
@@ -184,7 +193,7 @@ impl INumber {
 
     /// Returns `true` if the number was written with a decimal point or an exponent.
     ///
-    /// `2.0` and `2e0` were, `2` was not.
+    /// For example, returns `true` for `2.0` and `2e0`, and `false` for `2`.
     pub fn has_decimal_point(&self) -> bool
         ensures { result ≡ self.now.decimal.point }
     {
@@ -203,19 +212,21 @@ impl INumber {
 /// `point` is `true` if the number was written with a decimal point or an exponent.
 #[derive(Clone, Copy, PartialEq, Eq, Debug)]
 pub enum Form<'a> {
-    /// `mantissa * 10^exponent`; the exponent is from -7 to 7, the mantissa from -2^55 to 2^55 - 1.
+    /// `mantissa * 10 ^ exponent`. The exponent is from -7 to 7, and the mantissa from `-(2 ^ 55)`
+    /// to `2 ^ 55 - 1`.
     Packed {
         mantissa: i64,
         exponent: i8,
         point: bool,
     },
-    /// An integer that does not fit a packed mantissa, without a decimal point.
+    /// An integer without a decimal point that does not fit a packed mantissa.
     I64(i64),
-    /// An integer too large for an `i64`, without a decimal point.
+    /// An integer without a decimal point that is too large for an `i64`.
     U64(u64),
-    /// Any other number: `digits * 10^exponent`, negated if `negative`.
+    /// Any other number: `digits * 10 ^ exponent`, negated if `negative`.
     ///
-    /// Each digit is from 0 to 9, the most significant first, without leading and trailing zeros. The exponent is from -2^30 to 2^30.
+    /// Each digit is from 0 to 9, the most significant first, without leading and trailing zeros.
+    /// The exponent is from `-(2 ^ 30)` to `2 ^ 30`.
     Digits {
         negative: bool,
         digits: &'a [u8],
@@ -227,7 +238,7 @@ pub enum Form<'a> {
 impl INumber {
     ghost use Rattle.ijson_number.specs.FormValue.{form_value};
 
-    /// Returns the representation, as `form` does.
+    /// Returns the representation, without the further postconditions of `form`.
     fn form_of_stored(&self) -> Form<'_>
         ensures { form_value result ≡ form_of self.now.decimal }
     {
@@ -254,10 +265,13 @@ impl INumber {
         }
     }
 
-    /// Returns the representation. Digits are borrowed.
+    /// Returns the representation. Digits are borrowed. Does not allocate.
     ///
-    /// Numbers with the same value and decimal point have one form and one text, and no other number has that text. Does not allocate.
-    /// `1.50` is `Packed` with the mantissa 15 and the exponent -1, `9223372036854775807` is `I64`, and `1e-9` is a list of one digit.
+    /// Numbers with the same value and the same `has_decimal_point` have the same representation
+    /// and the same text. Numbers that differ in either have different texts.
+    ///
+    /// For example, `1.50` is `Packed` with the mantissa 15 and the exponent -1,
+    /// `9223372036854775807` is `I64`, and `1e-9` is a list of one digit.
     pub fn form(&self) -> Form<'_>
         ensures form { form_value result ≡ form_of self.now.decimal }
         ensures alike { (other : Num)
@@ -312,13 +326,14 @@ impl Clone for Stored {
     }
 }
 
-/// Copies the number with its decimal point.
+/// Copies the value, and whether the number was written with a decimal point.
 impl Clone for INumber {
     ghost is_clone = { λ n copy. copy ≡ n };
 
     ghost is_infallible = { λ n. is_digits (form_of n.decimal) ≡ false };
 
-    /// It allocates, and takes time linear in the digits, only if the form is a list of digits.
+    /// Allocates, and takes time linear in the number of digits, only if the number is stored as a
+    /// list of digits.
     #[inline(always)]
     fn clone(&self) -> Result<INumber, AllocError> {
         let stored = self.stored.clone()?;
@@ -326,13 +341,17 @@ impl Clone for INumber {
     }
 }
 
-/// Added to an exponent, so that it fits an unsigned word.
+/// The bias added to an exponent, so that the sum is not negative.
 const EXPONENT_BIAS: i64 = 1 << 31;
 
-/// Feeds the same words for equal numbers, each by one `write_u64`.
+/// Feeds the same words for equal numbers, each by one call of `write_u64`.
 ///
-/// Zero feeds 2 and 0. Any other number feeds 2, the sign (1 if positive, 2 if negative), the canonical exponent plus 2^31, the number of
-/// canonical digits, and each of them. Takes time linear in those digits, and does not allocate.
+/// Zero feeds 2 and 0. Any other number feeds 2, the sign (1 if positive, 2 if negative), the
+/// canonical exponent plus `2 ^ 31`, the number of canonical digits, and each canonical digit.
+///
+/// # Cost
+///
+/// Linear in the number of canonical digits. Does not allocate.
 impl Hash for INumber {
     ghost hash_input = { λ n. flat_map fed.u64 (number_words n.decimal) };
 
@@ -356,9 +375,9 @@ impl Hash for INumber {
     }
 }
 
-/// Two numbers are equal if their values are; the decimal point is ignored.
+/// Two numbers are equal if their values are equal: `2` equals `2.0`.
 ///
-/// Does not allocate, and reads each digit at most once.
+/// Does not allocate, and reads each digit of both numbers at most once.
 impl PartialEq for INumber {
     ghost eq = { λ a b. number_eq a.decimal b.decimal };
 
@@ -383,7 +402,7 @@ impl Eq for INumber {
     ghost laws = { on_equiv (λ n. n.decimal) number_eq_equiv };
 }
 
-/// As `cmp`: the order is total.
+/// Returns the result of `cmp`: the order is total.
 impl PartialOrd for INumber {
     ghost partial_cmp = { λ a b. Some (number_cmp a.decimal b.decimal) };
 
@@ -394,10 +413,13 @@ impl PartialOrd for INumber {
     }
 }
 
-/// Orders numbers by value; the decimal point is ignored.
+/// Orders numbers by value: `2` and `2.0` are equal.
 ///
-/// Does not allocate, and writes no exponent out as zeros. It reads digits only if the signs and the leading places are equal, and
-/// then at most two for each digit of the number with fewer.
+/// # Cost
+///
+/// Reads digits only if both numbers have the same sign and the same position of the decimal point
+/// relative to the first digit. Reads at most `2 * n` digits, where `n` is the smaller number of
+/// digits. Does not allocate, and does not expand exponents to zeros.
 impl Ord for INumber {
     ghost cmp = { λ a b. number_cmp a.decimal b.decimal };
 

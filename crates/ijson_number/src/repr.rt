@@ -9,11 +9,15 @@ pub(crate) mod stored;
 use crate::repr::stored::{MAX_DIGITS, Stored, StrippedNumber};
 use std::marker::Model;
 
-/// An exact decimal of 16 bytes.
+/// An exact decimal. The size of an `INumber` is 16 bytes.
 ///
-/// It is zero, or a significand without trailing zeros times a power of ten whose exponent is from -2^30 to 2^30; and its decimal point:
-/// whether it was written with a point or an exponent. A number whose form is a list of digits stores these in an allocation of its own.
-/// `2`, `2.0` and `20e-1` are equal, and the last two print as `2.0`.
+/// The value is zero, or a significand without trailing zeros times a power of ten whose exponent
+/// is from `-(2 ^ 30)` to `2 ^ 30`. The number also stores whether it was written with a decimal
+/// point or an exponent.
+///
+/// For example, `2`, `2.0` and `20e-1` are equal, and the last two print as `2.0`.
+///
+/// A number allocates only if it is stored as a list of digits.
 #[derive(Drop)]
 pub struct INumber {
     pub(crate) stored: Stored,
@@ -39,7 +43,7 @@ impl Model for INumber {
 impl INumber {
     ghost use Rattle.ijson_number.specs.private.StrippedNumber.{decimal_of};
 
-    /// Returns the parts of the number, with canonical digits.
+    /// Returns the sign, the canonical digits, the exponent and the `point` of the number.
     ///
     /// Digits that are not stored are written to `buffer`.
     pub(crate) fn stripped<'a>(&'a self, buffer: &'a mut [u8; MAX_DIGITS]) -> StrippedNumber<'a>

@@ -1,11 +1,12 @@
-//! A number as a sign, a magnitude of one word, and an exponent.
+//! A number as a sign, a magnitude of 64 bits, and an exponent.
 ghost use Rattle.std.specs.Prelude.{◌≡◌, ◌≢◌, ◌%◌, ◌≤◌, ◌⊎◌, pos, neg_ℤ, ◌+ℤ◌, ◌<ℤ◌, ◌≤ℤ◌};
 ghost use Rattle.ijson_number.specs.private.Significand.{HasFewerTens, canonical_number, significand_number};
 
-/// `magnitude * 10^exponent`, negated if `negative`.
+/// The number `magnitude * 10 ^ exponent`, negated if `negative`.
 ///
-/// `point` is `true` if a decimal point or an exponent was written. The number is canonical if ten does not divide the magnitude, and
-/// zero has no sign and the exponent 0.
+/// `point` is `true` if the number was written with a decimal point or an exponent. A nonzero
+/// number is canonical if ten does not divide its magnitude. Zero is canonical if it is not
+/// negative and its exponent is 0.
 #[derive(Clone, Copy)]
 pub struct Significand {
     pub negative: bool,
@@ -15,9 +16,10 @@ pub struct Significand {
 }
 
 impl Significand {
-    /// Strips trailing zeros while the exponent is below `end`.
+    /// Strips trailing zeros of the magnitude while the exponent is below `end`.
     ///
-    /// It takes at most 20 steps: zero loses a zero in each, so its exponent must be at most 20 below `end`, which it becomes.
+    /// Takes at most 20 steps. A magnitude of 0 is divided until the exponent is `end`, so its
+    /// exponent must be at least `end - 20`.
     #[inline(always)]
     pub fn strip_trailing_zeros(self, end: i32) -> Significand
         requires steps { self.magnitude ≡ 0 → end ≤ℤ (self.exponent +ℤ pos 20) }
@@ -39,7 +41,7 @@ impl Significand {
         }
     }
 
-    /// Returns the number by its canonical significand.
+    /// Returns the number with its canonical significand and exponent.
     #[inline(always)]
     pub fn canonical(self) -> Significand
         requires low { neg_ℤ (pos 20000) ≤ℤ self.exponent }

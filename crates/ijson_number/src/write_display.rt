@@ -1,4 +1,4 @@
-//! Writes the text of a number by a formatter.
+//! Writes the text of a number with a formatter.
 ghost use Rattle.std.specs.Prelude.{Some, ◌<◌, ◌≤◌, ◌≡◌, ◌^◌, pos, neg_ℤ, ◌<ℤ◌, int_le, int_lt, negsuc, ◌||◌, length};
 ghost use Rattle.std.specs.List.{All};
 ghost use Rattle.ijson_number.specs.Text.{digits_text, num_text, point_text, scientific_text, shape_text, zeros_text};
@@ -23,7 +23,7 @@ impl fmt::Display for Zeros {
     }
 }
 
-/// Returns the text of at most 20 digits, written into `buffer`.
+/// Writes up to 20 digits into `buffer` in ASCII, and returns them as a string.
 pub fn run_text<'a>(digits: &[u8], buffer: &'a mut [u8; MAX_DIGITS]) -> &'a str
     requires below_ten { All (λ d. d < 10) digits.now }
     requires short { length digits.now ≤ 20 }
@@ -35,7 +35,7 @@ pub fn run_text<'a>(digits: &[u8], buffer: &'a mut [u8; MAX_DIGITS]) -> &'a str
     unsafe { str::from_utf8_unchecked(&buffer[..digits.len()]) }
 }
 
-/// Digits from 0 to 9.
+/// Digits from 0 to 9, written in ASCII.
 #[derive(Drop)]
 struct DigitsText<'a> {
     digits: &'a [u8],
@@ -54,7 +54,10 @@ impl fmt::Display for DigitsText<'_> {
     }
 }
 
-/// One or more digits, with the point after the first one, and a power of ten.
+/// One or more digits in scientific notation, such as `1.25e21`.
+///
+/// The decimal point is written after the first digit. `place` is the index of the decimal point if
+/// no exponent is written.
 #[derive(Drop)]
 struct Scientific<'a> {
     digits: &'a [u8],
@@ -81,7 +84,8 @@ impl fmt::Display for Scientific<'_> {
     }
 }
 
-/// Digits with the point at index `place`, which may be outside them.
+/// Digits with the decimal point at index `place`, padded with zeros if `place` is outside the
+/// digits.
 #[derive(Drop)]
 struct Pointed<'a> {
     digits: &'a [u8],
@@ -150,11 +154,16 @@ impl fmt::Display for Shape<'_> {
     }
 }
 
-/// Writes the text of a number, as JSON.
+/// Writes the number as JSON.
 ///
-/// A number without a decimal point is written with all its digits. One with it is written with an exponent if the canonical exponent
-/// is above 20 or more than five zeros would follow `0.`. `1e2` is written `100.0`, `1e21` as `1e21`, and `0.0000001` as `1e-7`. Takes
-/// time linear in the text, and does not allocate.
+/// A number without a decimal point is written with all its digits. A number with a decimal point
+/// is written with an exponent if its canonical exponent is above 20, or if more than five zeros
+/// would follow `0.`. For example, `1e2` is written as `100.0`, `1e21` as `1e21`, and `0.0000001`
+/// as `1e-7`.
+///
+/// # Cost
+///
+/// Linear in the length of the text. Does not allocate.
 impl fmt::Display for INumber {
     ghost output = { λ n. Some (num_text n.decimal) };
 
@@ -178,7 +187,7 @@ impl fmt::Display for INumber {
     }
 }
 
-/// Writes the text, as `Display` does.
+/// Writes the same text as `Display`.
 impl fmt::Debug for INumber {
     ghost debug_output = { λ n. Some (num_text n.decimal) };
 

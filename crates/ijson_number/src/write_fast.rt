@@ -1,8 +1,9 @@
 //! Appends the text of a number, and its canonical digits.
 //!
-//! Vectors of 16 digits are tried first. Without a formatter they append an integer that fits a word, and a number of at most 19 digits
-//! with a decimal point, unless its text has zeros between the digits and the point or an exponent after a single digit.
-//! `write_display` writes the others.
+//! `push_fast` appends numbers as vectors of 16 digits, without a formatter: integers that fit a
+//! word, and numbers of at most 19 digits with a decimal point. `write_display` writes all other
+//! numbers, and numbers whose text has zeros between the digits and the point or an exponent after
+//! a single digit.
 ghost use Rattle.std.specs.Prelude.{◌≡◌, ◌+◌, ◌-◌, ◌/◌, ◌%◌, ◌^◌, ◌<◌, ◌≤◌, ◌∷◌, ◌++◌, ℤ, drop, length, nat_abs, neg_ℤ, pos, true, negsuc, int_le};
 ghost use Rattle.std.specs.Prelude.{int_lt, ◌||◌, ◌+ℤ◌, ◌≤ℤ◌, ◌⊎◌, IsSome, OnErr, OnOk, IfOk};
 ghost use Rattle.std.specs.String.{string_bytes};
@@ -28,12 +29,14 @@ use crate::write_display::{is_scientific, run_text};
 use std::alloc::AllocError;
 use std::simd::prelude::*;
 
-/// The maximum number of bytes, besides the digits, of a text with a decimal point: a minus, 20 zeros and `.0`.
+/// The maximum number of bytes in a text with a decimal point that are not digits of the number.
+///
+/// These are a minus sign, 20 zeros and `.0`.
 const BESIDE_DIGITS: usize = 23;
 
-/// Appends `magnitude / 10^scale` with a sign and `scale` fraction digits.
+/// Appends `magnitude / 10 ^ scale` with a sign and `scale` fraction digits.
 ///
-/// Not inlined, like `push_integer` and `push_digits`: in a longer function the compiler does not inline the appends of a few bytes.
+/// Not inlined, because in a longer function the compiler does not inline appends of a few bytes.
 #[inline(never)]
 fn push_decimal(
     negative: bool,
@@ -55,7 +58,7 @@ fn push_decimal(
     push_rows(false, lanes, 1, LANES - 1 - scale, lanes, scale, out)
 }
 
-/// Appends the minus, if there is one.
+/// Appends the minus sign if `negative`.
 #[inline(always)]
 fn push_minus(negative: bool, out: &mut String) -> Result<(), AllocError>
     ensures written { OnOk result (string_bytes out.new ≡ string_bytes out.old ++ minus_text negative) }
@@ -68,6 +71,8 @@ fn push_minus(negative: bool, out: &mut String) -> Result<(), AllocError>
 }
 
 /// Appends an integer.
+///
+/// Not inlined, for the same reason as `push_decimal`.
 #[inline(never)]
 pub fn push_integer(negative: bool, magnitude: u64, out: &mut String) -> Result<(), AllocError>
     ensures { Appends result (string_bytes out.old) (string_bytes out.new) (integer_text negative magnitude) }
@@ -85,7 +90,8 @@ pub fn push_integer(negative: bool, magnitude: u64, out: &mut String) -> Result<
 
 /// Appends a packed number with a decimal point.
 ///
-/// Returns `None`, with nothing appended, if its text has an exponent, or zeros between the digits and the point.
+/// Returns `None`, with nothing appended, if the text has an exponent, or zeros between the digits
+/// and the point.
 #[inline(always)]
 fn push_pointed(mantissa: i64, exponent: i8, out: &mut String) -> Option<Result<(), AllocError>>
     requires form { form_of (stripped_number mantissa exponent true) ≡ packed mantissa exponent true }
@@ -100,7 +106,7 @@ fn push_pointed(mantissa: i64, exponent: i8, out: &mut String) -> Option<Result<
         return None;
     }
     if exponent == 0 {
-        // `5.0` is 50 / 10
+        // Writes `5.0` as 50 with one fraction digit.
         return Some(push_decimal(negative, magnitude * 10, 1, out));
     }
     let scale = usize::from(exponent.unsigned_abs());
@@ -108,9 +114,10 @@ fn push_pointed(mantissa: i64, exponent: i8, out: &mut String) -> Option<Result<
 }
 
 impl StrippedNumber<'_> {
-    /// Appends the minus, if there is one, and the digits, with the point after the first `before` digits.
+    /// Appends the minus sign, if any, and the digits, with the decimal point after the first
+    /// `before` digits.
     ///
-    /// If there are at most 16 digits, `lanes` must end with them.
+    /// Requires that `lanes` ends with the digits in ASCII if there are at most 16.
     #[inline(always)]
     fn push_split(&self, lanes: u8x16, before: usize, out: &mut String) -> Result<(), AllocError>
         requires all { length lanes ≡ 16 }
@@ -143,9 +150,9 @@ impl StrippedNumber<'_> {
         push_rows(self.negative, whole, 0, before, last, scale, out)
     }
 
-    /// Like `push_split`, without vectors.
+    /// Like `push_split`, but without vectors.
     ///
-    /// Not inlined: few numbers have more than 16 digits on one side of the point.
+    /// Not inlined, because few numbers have more than 16 digits before or after the decimal point.
     #[inline(never)]
     fn push_long_split(&self, before: usize, out: &mut String) -> Result<(), AllocError>
         requires inside { before ≤ length self.now.digits.now }
@@ -161,9 +168,9 @@ impl StrippedNumber<'_> {
         out.push_str(run_text(fraction, &mut buffer))
     }
 
-    /// Appends the minus, if there is one, `0.`, `zeros` zeros, and the digits.
+    /// Appends the minus sign, if any, `0.`, `zeros` zeros, and the digits.
     ///
-    /// If there are at most 16 digits, `lanes` must end with them.
+    /// Requires that `lanes` ends with the digits in ASCII if there are at most 16.
     #[inline(always)]
     fn push_fraction(&self, lanes: u8x16, zeros: usize, out: &mut String) -> Result<(), AllocError>
         requires all { length lanes ≡ 16 }
@@ -178,7 +185,9 @@ impl StrippedNumber<'_> {
         Ok(())
     }
 
-    /// Appends a number of two or more digits with the point after the first one and an exponent.
+    /// Appends a number of two or more digits in scientific notation.
+    ///
+    /// Requires that `lanes` ends with the digits in ASCII if there are at most 16.
     #[inline(always)]
     fn push_scientific(&self, lanes: u8x16, place: i128, out: &mut String) -> Result<(), AllocError>
         requires all { length lanes ≡ 16 }
@@ -197,9 +206,10 @@ impl StrippedNumber<'_> {
         push_integer(power < 0, power.unsigned_abs() as u64, out)
     }
 
-    /// Appends a nonzero number whose text begins with `0.` after the sign, or has an exponent and two or more digits.
+    /// Appends a number below 1, or a number of two or more digits in scientific notation.
     ///
-    /// Returns `None`, with nothing appended, for any other number. If there are at most 16 digits, `lanes` must end with them.
+    /// Returns `None`, with nothing appended, for any other number. Requires that `lanes` ends with
+    /// the digits in ASCII if there are at most 16.
     #[inline(never)]
     fn push_unsplit(&self, lanes: u8x16, out: &mut String) -> Option<Result<(), AllocError>>
         requires all { length lanes ≡ 16 }
@@ -227,8 +237,13 @@ impl StrippedNumber<'_> {
 
     /// Appends a number with a decimal point, or returns `None` with nothing appended.
     ///
-    /// It returns `None` only if an exponent follows a single digit, zeros are between the digits and the point, or there is no decimal
-    /// point. If there are at most 16 digits, `lanes` must end with them.
+    /// Returns `None` only if
+    ///
+    /// - the number lacks a decimal point,
+    /// - an exponent follows a single digit, or
+    /// - zeros are between the digits and the decimal point.
+    ///
+    /// Requires that `lanes` ends with the digits in ASCII if there are at most 16.
     #[inline(never)]
     fn push_digits(&self, lanes: u8x16, out: &mut String) -> Option<Result<(), AllocError>>
         requires all { length lanes ≡ 16 }
@@ -253,7 +268,7 @@ impl StrippedNumber<'_> {
 impl INumber {
     /// Appends the number without a formatter.
     ///
-    /// Returns `None`, with nothing appended, if only `push_slow` can write it.
+    /// Returns `None`, with nothing appended, if `push_slow` has to write the number.
     #[inline(always)]
     fn push_fast(&self, out: &mut String) -> Option<Result<(), AllocError>>
         ensures pushed { Pushed result (string_bytes out.old) (string_bytes out.new) (num_text self.now.decimal) }
@@ -277,7 +292,9 @@ impl INumber {
         Some(push_integer(negative, magnitude, out))
     }
 
-    /// Appends the text by a formatter. Not inlined: few numbers need it.
+    /// Appends the number with a formatter.
+    ///
+    /// Not inlined, because few numbers need it.
     #[inline(never)]
     fn push_slow(&self, out: &mut String) -> Result<(), AllocError>
         ensures written { OnOk result (string_bytes out.new
@@ -286,24 +303,27 @@ impl INumber {
     {
         let mut buffer = [0; MAX_DIGITS];
         let room = self.stripped(&mut buffer).digits.len() + BESIDE_DIGITS;
-        // std does not specify what a formatter leaves after an error
+        // Formats into a temporary string, because the output of a formatter that fails is
+        // unspecified.
         let mut text = String::with_capacity(*out.allocator(), room)?;
         write!(text, "{self}")?;
         out.push_str(text.as_str())
     }
 
-    /// Appends the text that `Display` writes, mostly without a formatter.
+    /// Appends the text that `Display` writes, usually without a formatter.
     ///
-    /// It may need capacity for 31 bytes more than the text.
+    /// May reserve up to 31 bytes more than the text needs.
     ///
     /// # Errors
     ///
-    /// Returns `AllocError` if an allocation fails. The beginning of the text may then be at the end of `out`.
+    /// Returns `AllocError` if an allocation fails. A prefix of the text may then be at the end of
+    /// `out`.
     ///
     /// # Cost
     ///
-    /// Linear in the text. A text with zeros after the digits, with an exponent after a single digit or with more than 19 digits is first
-    /// written to a string of its own.
+    /// Linear in the length of the text. A text with zeros before the decimal point, with an
+    /// exponent after a single digit, or with more than 19 digits is first written to a temporary
+    /// string.
     #[inline(always)]
     pub fn push_to(&self, out: &mut String) -> Result<(), AllocError>
         ensures written { OnOk result (string_bytes out.new
@@ -318,7 +338,7 @@ impl INumber {
     }
 }
 
-/// Appends the canonical significand of `magnitude * 10^exponent`, and returns its exponent.
+/// Appends the canonical significand of `magnitude * 10 ^ exponent`, and returns its exponent.
 fn push_significand(magnitude: u64, exponent: i8, out: &mut String) -> Result<i32, AllocError>
     ensures written { OnOk result (string_bytes out.new ≡ string_bytes out.old
         ++ digits_text (stripped_digits (stripped_number (pos magnitude) exponent true))) }
@@ -379,12 +399,16 @@ impl StrippedNumber<'_> {
 impl INumber {
     /// Appends the digits of the canonical significand, and returns its exponent.
     ///
-    /// The sign and the point are not written. Zero has no digit and the exponent 0; `-0.50` has the digit 5 and the exponent -1, and `100`
-    /// the digit 1 and the exponent 2. It may need capacity for 15 bytes more than the digits. Takes time linear in the digits.
+    /// The sign and the decimal point are not written. For zero, appends nothing and returns 0. For
+    /// `-0.50`, appends `5` and returns -1. For `100`, appends `1` and returns 2.
+    ///
+    /// May reserve up to 15 bytes more than the digits need. Takes time linear in the number of
+    /// digits.
     ///
     /// # Errors
     ///
-    /// Returns `AllocError` if an allocation fails. Some or all of the digits may then be at the end of `out`.
+    /// Returns `AllocError` if an allocation fails. A prefix of the digits may then be at the end
+    /// of `out`.
     pub fn push_stripped_digits(&self, out: &mut String) -> Result<i32, AllocError>
         ensures digits { OnOk result (string_bytes out.new
             ≡ string_bytes out.old ++ digits_text (stripped_digits self.now.decimal)) }

@@ -1,4 +1,4 @@
--- Chains are built link by link, from the first.
+-- Appending a link to a table keeps its chains valid.
 use Rattle.std.proofs.Common.{◌≡◌, ◌∙◌, ap, ap₂, sym, subst, ℕ, ◌+◌, ◌*◌, ◌^◌, ◌<◌, ◌≤◌, List, [], ◌∷◌, ◌++◌, length, get_or, replicate, arith}
 use Rattle.std.proofs.Math.ListN.{set}
 use Rattle.std.proofs.lemmas.List.{get_or-map, get_or-replicate, length-append, length-map, length-replicate, length-set, map-append}
@@ -13,7 +13,7 @@ use Rattle.ijson_string.proofs.Filters.{AllPass-push}
 abbrev no_bucket : Bucket
 no_bucket = record { head = 0; filter = 0 }
 
--- empty buckets lead to no string
+-- Without strings, empty buckets form valid chains.
 pub IsChained-none : (n : ℕ) → IsChained [] [] (heads_of (replicate n no_bucket))
 IsChained-none n =
     let empty = replicate n no_bucket in
@@ -25,7 +25,8 @@ IsChained-none n =
       links = λ p lt. absurd (omega arith);
     }
 
--- appending a link
+-- Appending a link to the old head of its bucket, and making the new link the head, keeps the
+-- chains valid.
 AreChained-push : (links : List Link) (heads : List ℕ) (l : Link) → AreChained links heads
     → bucket_of (length heads) l.hash < length heads → l.next ≡ get_or heads (bucket_of (length heads) l.hash) 0
     → AreChained (links ++ l ∷ []) (set heads (bucket_of (length heads) l.hash) (length links + 1))
@@ -45,7 +46,7 @@ AreChained-push links heads l chained inside leads =
     rw (buckets_now, nexts_now)
     (subst (λ n. IsChained (buckets ++ h ∷ []) (nexts ++ get_or heads h 0 ∷ []) (set heads h (n + 1))) as_many_buckets pushed)
 
--- appending a string, if there is a bucket for it
+-- Appending a string keeps `IsTable` if there are fewer than four strings per bucket.
 pub IsTable-push : (links : List Link) (buckets after : List Bucket) (l : Link) → IsTable links buckets → length links < 4 * length buckets
     → IsEntered buckets after l.hash (length links + 1) → l.next ≡ get_or (heads_of buckets) (bucket_of (length buckets) l.hash) 0
     → IsTable (links ++ l ∷ []) after
@@ -67,7 +68,7 @@ IsTable-push links buckets after l table room entered leads =
           (AllPass-push (filters_of buckets) l.hash (rw as_many_filters entered.inside) (hashes_of links) table.filtered);
     }
 
--- the empty table
+-- A table without strings satisfies `IsTable`.
 pub IsTable-none : (n : ℕ) → n ≤ 2 ^ 32 → IsTable [] (replicate n no_bucket)
 IsTable-none n bounded =
     let count = length-replicate n no_bucket in

@@ -1,4 +1,4 @@
--- A lookup follows the chain of a bucket from its head.
+-- A lookup walks the chain of a bucket from its head, and finds the key if it is present.
 use Rattle.std.proofs.Common.{◌≡◌, ◌∙◌, ap, ap₂, sym, subst, refl, ℕ, zero, suc, ◌+◌, ◌-◌, ◌<◌, ◌≤◌, ◌≢◌, true, false, ◌&&◌, ◌||◌, List, []}
 use Rattle.std.proofs.Common.{◌∷◌, length, get_or, take, if◌then◌else◌, arith, add-one}
 use Rattle.std.specs.Prelude.{◌==◌, nat_eq}
@@ -20,20 +20,20 @@ use Rattle.ijson_string.proofs.Chains.{head_of-within, head_of-here}
 use Rattle.ijson_string.proofs.KeysAt.{buckets_of_keys, buckets-keys, as_many_keys}
 
 module _ (hash : ℕ) (text : List ℕ) where
-  -- a key of this hash and this string is the key
+  -- A key with this hash and this string satisfies `is_key`.
   pub is_same : (k : Key) → k.hash ≡ hash → k.text ≡ text → is_key hash text k ≡ true
   is_same k h t = ap₂ ◌&&◌ (eq-eqb hash k.hash (sym h)) ((bytes_decides text k.text).1 (sym t))
 
-  -- a key at an index is in the list
+  -- If the key at index `at` has this hash and this string, the list contains the key.
   pub any_at : (keys : List Key) (at : ℕ) → IsKeyAt hash text keys at → list_any (is_key hash text) keys ≡ true
   any_at keys at there = list_any_at (is_key hash text) keys at no_key there.0
       (ap (is_key hash text) there.1 ∙ is_same (record { hash = hash; text = text }) refl refl)
 
-  -- a key of another hash is another key
+  -- A key with a different hash does not satisfy `is_key`.
   pub is_other_hash : (k : Key) → k.hash ≢ hash → is_key hash text k ≡ false
   is_other_hash k h = ap (λ b. b && bytes_eq text k.text) (ne_eqb hash k.hash (λ e. h (sym e)))
 
-  -- a key of another string is another key
+  -- A key with a different string does not satisfy `is_key`.
   pub is_other_text : (k : Key) → k.text ≢ text → is_key hash text k ≡ false
   is_other_text k t = elim (bytes_eq text k.text)
       as (λ b. bytes_eq text k.text ≡ b → (nat_eq hash k.hash && b) ≡ false) [
@@ -42,11 +42,11 @@ module _ (hash : ℕ) (text : List ℕ) where
       ] refl
 
 module _ (count hash : ℕ) (text : List ℕ) where
-  -- a key of another bucket is another key
+  -- A key in a different bucket does not satisfy `is_key`.
   is_other_bucket : (k : Key) → (bucket_of count k.hash == bucket_of count hash) ≡ false → is_key hash text k ≡ false
   is_other_bucket k other = is_other_hash hash text k (λ e. eqb-false _ _ other (ap (bucket_of count) e))
 
-  -- the key is not after the last one of its bucket
+  -- A list contains the key if and only if its keys up to the last key of the bucket contain it.
   any-heads : (keys : List Key)
       → list_any (is_key hash text) keys
       ≡ list_any (is_key hash text) (take (head_of (bucket_of count hash) (buckets_of_keys count keys)) keys)
@@ -69,14 +69,15 @@ module _ (count hash : ℕ) (text : List ℕ) where
             (sym (eqb-suc-zero n)) (rw (add-one (suc n)) (ap (λ b. is_key hash text k || b) some))
       ] (any-heads keys)
 
-  -- The rest of a lookup: the key, if present, is among the first `at`, and key `at - 1` is in the
-  -- bucket of `hash`.
+  -- The state of a lookup at `at`, an index plus 1. Holds if the key, if present, is among the
+  -- first `at` keys, and if key `at - 1` is in the bucket of `hash`.
   pub record IsAhead (keys : List Key) (at : ℕ) : Type 0 where
     pub within : at ≤ length keys
     pub here : 0 < at → get_or (buckets_of_keys count keys) (at - 1) 0 ≡ bucket_of count hash
     pub ahead : list_any (is_key hash text) keys ≡ list_any (is_key hash text) (take at keys)
 
-  -- if the key is among the first `n`, it is not after the last one of its bucket among those
+  -- If the key can only be among the first `n` keys, a lookup may start at the last of them in its
+  -- bucket.
   IsAhead-heads : (keys : List Key) (n at : ℕ) → n ≤ length keys
       → list_any (is_key hash text) keys ≡ list_any (is_key hash text) (take n keys)
       → at ≡ head_of (bucket_of count hash) (take n (buckets_of_keys count keys)) → IsAhead keys at
@@ -102,11 +103,11 @@ module _ (count hash : ℕ) (text : List ℕ) where
     abbrev keys : List Key
     keys = keys_of (hashes_of links) texts
 
-    -- each link has a key
+    -- There are as many keys as links.
     as_many : length keys ≡ length links
     as_many = as_many_keys links texts keys listed refl
 
-    -- the chains of the links are those of the keys
+    -- The chains of the links are the chains of the keys.
     by_bucket : IsChained (buckets_of_keys count keys) (nexts_of links) heads
     by_bucket =
         subst (λ buckets. IsChained buckets (nexts_of links) heads)
@@ -115,7 +116,7 @@ module _ (count hash : ℕ) (text : List ℕ) where
     as_many_buckets : length (buckets_of_keys count keys) ≡ length links
     as_many_buckets = length-map keys (λ k. bucket_of count k.hash) ∙ as_many
 
-    -- the start of a lookup
+    -- A lookup that starts at the head of the bucket of `hash` satisfies `IsAhead`.
     IsAhead-start : bucket_of count hash < length heads → IsAhead keys (get_or heads (bucket_of count hash) 0)
     IsAhead-start inside =
         IsAhead-heads keys (length keys) _ (omega arith) (ap (list_any (is_key hash text)) (sym (take-length keys)))
@@ -124,18 +125,18 @@ module _ (count hash : ℕ) (text : List ℕ) where
         (as_many_buckets ∙ sym as_many)))
 
     module _ (at : ℕ) (l : Link) (ahead : IsAhead keys at) (some : 0 < at) (there : l ≡ get_or links (at - 1) l) where
-      -- the lookup is at a link
+      -- The lookup is at an existing link.
       within : at - 1 < length links
       within = let heads = ahead.within in omega (arith, as_many)
 
-      -- the link leads to the last key of its bucket before it
+      -- The link points to the previous key of its bucket.
       leads : l.next ≡ head_of (bucket_of count hash) (take (at - 1) (buckets_of_keys count keys))
       leads =
           ap (λ l. l.next) there ∙ sym (get_or-map (λ l. l.next) links (at - 1) l 0 within)
           ∙ by_bucket.links (at - 1) (omega (arith, as_many_buckets, within))
           ∙ ap (λ h. head_of h (take (at - 1) (buckets_of_keys count keys))) (ahead.here some)
 
-      -- the next index is smaller
+      -- Each step of a lookup decreases the index.
       pub falls : l.next < at
       falls = omega (
         arith,
@@ -145,7 +146,8 @@ module _ (count hash : ℕ) (text : List ℕ) where
             (buckets_of_keys count keys),
       )
 
-      -- if this is another key, the lookup continues at the next index
+      -- If key `at - 1` is a different key, the lookup continues at the next index, and still
+      -- satisfies `IsAhead`.
       pub IsAhead-step : is_key hash text (get_or keys (at - 1) no_key) ≡ false → IsAhead keys l.next
       IsAhead-step other =
           let on : at - 1 + 1 ≡ at = omega arith in
@@ -157,7 +159,7 @@ module _ (count hash : ℕ) (text : List ℕ) where
           ∙ or-false _)
           leads
 
--- a lookup starts at the head of its bucket
+-- In a table, a lookup that starts at the head of the bucket of `hash` satisfies `IsAhead`.
 pub IsAhead-first : (hash : ℕ) (text : List ℕ) (links : List Link) (texts : List (List ℕ)) (buckets : List Bucket) (at : ℕ)
     → IsTable links buckets
     → length texts ≡ length links → bucket_of (length buckets) hash < length buckets

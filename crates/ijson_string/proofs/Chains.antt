@@ -1,4 +1,4 @@
--- Chains of indices.
+-- The heads and links of chains of indices.
 use Rattle.std.proofs.Common.{◌≡◌, ◌∙◌, ap, ap₂, sym, subst, below_more, refl, ℕ, zero, suc, ◌+◌, ◌-◌, ◌<◌, ◌≤◌, true, false, List, [], ◌∷◌}
 use Rattle.std.proofs.Common.{◌++◌, length, get_or, take, if◌then◌else◌, arith, length-append}
 use Rattle.std.specs.Prelude.{◌==◌}
@@ -11,12 +11,12 @@ use Rattle.std.proofs.lemmas.Grind.{common_steps, get_or-set_at}
 use Rattle.std.proofs.lemmas.List.{length-set, take-append-le}
 use Rattle.ijson_string.specs.private.Chains.{head_of, IsChained}
 
--- the head is within the list
+-- The head of a bucket is at most the length of the list.
 pub head_of-within : (bucket : ℕ) (buckets : List ℕ) → head_of bucket buckets ≤ length buckets
 head_of-within bucket [] = omega arith
 head_of-within bucket (h ∷ buckets) = grind (arith, nat_tests, head_of-within bucket buckets)
 
--- the head is in its bucket
+-- If a bucket is not empty, the string at its head is in this bucket.
 pub head_of-here : (bucket : ℕ) (buckets : List ℕ) → 0 < head_of bucket buckets → get_or buckets (head_of bucket buckets - 1) 0 ≡ bucket
 head_of-here bucket [] some = absurd (omega arith)
 head_of-here bucket (h ∷ buckets) some =
@@ -37,13 +37,14 @@ head_of-here bucket (h ∷ buckets) some =
           (subst (λ m. get_or (h ∷ buckets) m 0 ≡ bucket) (sym on) (subst (λ m. get_or buckets m 0 ≡ bucket) back here))
     ] refl some
 
--- the head of a bucket after a string is added
+-- Adding a string makes it the head of its bucket, and keeps the heads of all other buckets.
 head_of-push : (bucket : ℕ) (buckets : List ℕ) (h : ℕ)
     → head_of bucket (buckets ++ h ∷ []) ≡ (if h == bucket then length buckets + 1 else head_of bucket buckets)
 head_of-push bucket [] h = refl
 head_of-push bucket (x ∷ buckets) h = rw (head_of-push bucket buckets h) (grind (arith, nat_tests))
 
--- an added string becomes the head of its bucket, and leads to the old head
+-- Adding a string that links to the old head of its bucket, and making the string the head, keeps
+-- `IsChained`.
 pub IsChained-push : (buckets nexts heads : List ℕ) (h : ℕ) → IsChained buckets nexts heads
     → length nexts ≡ length buckets → h < length heads
     → IsChained (buckets ++ h ∷ []) (nexts ++ get_or heads h 0 ∷ []) (set heads h (length buckets + 1))

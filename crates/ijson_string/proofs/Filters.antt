@@ -1,4 +1,5 @@
--- The filters of the buckets: an added hash passes, and keeps passing.
+-- Adding a hash to the filter of its bucket: the hash then passes, and each hash that passed before
+-- still passes.
 use Rattle.std.proofs.Common.{◌≡◌, ◌∙◌, ap, sym, subst, refl, ℕ, ◌<◌, max, true, false, ◌&&◌, ◌||◌, List, [], ◌∷◌, ◌++◌, length}
 use Rattle.std.proofs.Common.{get_or, arith}
 use Rattle.std.specs.Prelude.{◌==◌, nat_eq}
@@ -19,21 +20,22 @@ greatest_kept a b c e = omega arith
 greatest_there : (a b : ℕ) → max (max a b) b ≡ max a b
 greatest_there a b = omega arith
 
--- a set bit stays set
+-- If the bits of `n` are set in `x`, they are still set after the bits of `m` are set too.
 or_kept : (x m n : ℕ) → bit_or x n ≡ x → bit_or (bit_or x m) n ≡ bit_or x m
 or_kept x m n e = same_from_bits _ _ (λ i.
     bit_at_or (bit_or x m) n i ∙ ap (λ y. max y (bit_at n i)) (bit_at_or x m i)
     ∙ greatest_kept (bit_at x i) (bit_at m i) (bit_at n i) (sym (bit_at_or x n i) ∙ ap (λ y. bit_at y i) e)
     ∙ sym (bit_at_or x m i))
 
--- setting bits twice changes nothing
+-- Setting the same bits twice has the same result as setting them once.
 or_there : (x n : ℕ) → bit_or (bit_or x n) n ≡ bit_or x n
 or_there x n = same_from_bits _ _ (λ i.
     bit_at_or (bit_or x n) n i ∙ ap (λ y. max y (bit_at n i)) (bit_at_or x n i)
     ∙ greatest_there (bit_at x i) (bit_at n i) ∙ sym (bit_at_or x n i))
 
 module _ (filters : List ℕ) (hash : ℕ) (inside : bucket_of (length filters) hash < length filters) where
-  -- reading a filter after the bits of a hash are set
+  -- Setting the bits of a hash keeps the number of filters, so each hash still selects the same
+  -- filter.
   read_filter : (q : ℕ) → get_or (with_filter filters hash) (bucket_of (length (with_filter filters hash)) q) 0 ≡ get_or
       (with_filter filters hash) (bucket_of (length filters) q) 0
   read_filter q = ap (λ n. get_or (with_filter filters hash) (bucket_of n q) 0)
@@ -43,7 +45,7 @@ module _ (filters : List ℕ) (hash : ℕ) (inside : bucket_of (length filters) 
       → bit_or x (filter_of q) ≡ x → passes (with_filter filters hash) q ≡ true
   passes_by q x e f = eq-eqb _ _ (ap (λ y. bit_or y (filter_of q)) e ∙ f ∙ sym e)
 
-  -- a hash passes once its bits are set
+  -- A hash passes after its bits are set.
   passes-own : passes (with_filter filters hash) hash ≡ true
   passes-own =
       let there : ℕ = get_or filters (bucket_of (length filters) hash) 0 in
@@ -51,7 +53,7 @@ module _ (filters : List ℕ) (hash : ℕ) (inside : bucket_of (length filters) 
       ∙ get_or-set_same filters (bucket_of (length filters) hash) (bit_or there (filter_of hash)) 0 inside)
       (or_there there (filter_of hash))
 
-  -- a hash that passed keeps passing
+  -- If a hash passes, it still passes after the bits of another hash are set.
   passes-kept : (q : ℕ) → passes filters q ≡ true → passes (with_filter filters hash) q ≡ true
   passes-kept q before =
       let bucket : ℕ = bucket_of (length filters) hash in
@@ -74,12 +76,13 @@ module _ (filters : List ℕ) (hash : ℕ) (inside : bucket_of (length filters) 
             was
       ] refl
 
-  -- adding a hash
+  -- If each hash passes, each hash and the added hash pass after the bits of the added hash are
+  -- set.
   pub AllPass-push : (hashes : List ℕ) → AllPass filters hashes → AllPass (with_filter filters hash) (hashes ++ hash ∷ [])
   AllPass-push [] all = (passes-own, tt)
   AllPass-push (h ∷ hashes) all = (passes-kept h all.0, AllPass-push hashes all.1)
 
--- a hash that does not pass has no key
+-- If `hash` does not pass, the list does not contain a key with this hash.
 pub is_nowhere : (filters : List ℕ) (hash : ℕ) (text : List ℕ) (hashes : List ℕ) (texts : List (List ℕ)) → AllPass filters hashes
     → passes filters hash ≡ false
     → list_any (is_key hash text) (keys_of hashes texts) ≡ false

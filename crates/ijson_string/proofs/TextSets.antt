@@ -1,4 +1,4 @@
--- The strings of a list as a finite set.
+-- The set of the strings in a list.
 use Rattle.std.proofs.Common.{◌≡◌, ◌∙◌, sym, refl, ℕ, true, false, ◌||◌, List, [], ◌∷◌}
 use Rattle.std.specs.List.{list_any}
 use Rattle.std.specs.Ordering.{nat_cmp, eq_by_cmp}
@@ -9,26 +9,26 @@ use Rattle.std.specs.FinSet as set
 use Rattle.std.specs.FinMap.{IsAntisymmetric, slice_cmp-IsAntisymmetric, nat_cmp-IsAntisymmetric}
 use Rattle.std.proofs.lemmas.Map.Text.{is_eq-slice_cmp}
 
--- the order by bytes is total
+-- The lexicographic order of byte strings is total.
 pub order : IsTotalOrder (slice_cmp nat_cmp)
 order = nat_list_cmp_total
 
--- strings that tie are equal
+-- Byte strings that compare as equal are equal.
 pub exact : IsAntisymmetric (slice_cmp nat_cmp)
 exact = slice_cmp-IsAntisymmetric nat_cmp-IsAntisymmetric
 
--- to tie with a key is to be that key
+-- A list contains a string that compares as equal to `q` if and only if it contains `q`.
 tied : (keys : List (List ℕ)) (q : List ℕ)
     → list_any (eq_by_cmp (slice_cmp nat_cmp) q) keys ≡ list_any (λ k. bytes_eq q k) keys
 tied [] q = refl
 tied (k ∷ keys) q = λ i. is_eq-slice_cmp q k i || tied keys q i
 
--- the set has the strings of the list
+-- The set built from a list contains exactly the strings of the list.
 pub contains-from_list : (keys : List (List ℕ)) (q : List ℕ)
     → set.contains {R = slice_cmp nat_cmp} (set.from_list keys) q ≡ list_any (λ k. bytes_eq q k) keys
 contains-from_list keys q = set.contains-from_list order keys q ∙ tied keys q
 
--- adding a present string changes nothing
+-- Inserting a string that is present leaves the set unchanged.
 pub insert-present : (texts : set.FinSet (slice_cmp nat_cmp)) (text : List ℕ) → set.contains texts text ≡ true
     → set.insert texts text ≡ texts
 insert-present texts text present =

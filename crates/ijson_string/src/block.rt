@@ -6,8 +6,8 @@ use std::str;
 
 /// A UTF-8 string of up to `N` bytes, padded with zeros.
 ///
-/// It is aligned to 8 bytes, so that an `IString` is moved by whole words. The length comes first, so that it has one offset in a block
-/// of any size, and a string is found without a branch on the size.
+/// A block is aligned to 8 bytes, so that an `IString` is moved by whole words. The length comes
+/// first, so that its offset does not depend on `N` and reading it needs no branch on the size.
 #[derive(Drop)]
 pub(crate) struct Block<const N: usize> {
     aligned: [u64; 0],
@@ -27,9 +27,10 @@ impl<const N: usize> Model for Block<N> {
 }
 
 impl<const N: usize> Block<N> {
-    /// Creates a block with `text` from its first `first` and last `last` bytes, which may overlap.
+    /// Creates a block from the first `first` and the last `last` bytes of `text`, which may
+    /// overlap.
     ///
-    /// Both sizes are constants of the caller, so each copy is a few moves instead of a call.
+    /// Callers pass constants as both sizes, so that each copy is a few moves instead of a call.
     #[inline(always)]
     pub(crate) fn of_ends(text: &str, first: usize, last: usize) -> Block<N>
         requires first { first ≤ length text.now }
@@ -50,7 +51,7 @@ impl<const N: usize> Block<N> {
         }
     }
 
-    /// Copies the block. (A struct with a model cannot be `Copy`.)
+    /// Copies the block. A type with a model cannot implement `Copy`.
     pub(crate) fn copy(&self) -> Block<N>
         ensures { result ≡ self.now }
     {
@@ -70,7 +71,7 @@ impl<const N: usize> Block<N> {
 }
 
 impl Block<7> {
-    /// Creates a block with `text`.
+    /// Creates a block of up to 7 bytes.
     #[inline(always)]
     pub(crate) fn inline(text: &str) -> Block<7>
         requires { length text.now ≤ 7 }
@@ -97,7 +98,7 @@ impl Block<7> {
 }
 
 impl Block<23> {
-    /// Creates a block with a `text` of 8 bytes or more, copied as three words, which may overlap.
+    /// Creates a block from `text`, copied as three words of 8 bytes, which may overlap.
     #[inline(always)]
     pub(crate) fn of_words(text: &str) -> Block<23>
         requires long { 8 ≤ length text.now }
@@ -120,7 +121,7 @@ impl Block<23> {
 
 /// Copies `text[start..start + size]` to the same range of `bytes`.
 ///
-/// `bytes` has to begin with `text[..start]`.
+/// Requires that `bytes` begins with `text[..start]`.
 #[inline(always)]
 fn put_piece(bytes: &mut [u8], text: &[u8], start: usize, size: usize)
     requires inside { start + size ≤ length text.now }

@@ -1,4 +1,4 @@
-//! `StringCache`: the set of long strings that were interned.
+//! `StringCache`: a set of interned strings.
 ghost use Rattle.std.specs.Prelude.{◌≡◌, ◌<◌, ◌≤◌, ◌==◌, false, length, IfOk, OnOk, OnErr};
 ghost use Rattle.std.specs.FinSet as set;
 ghost use Rattle.ijson_string.specs.Cache.{AreLong};
@@ -15,13 +15,15 @@ use std::marker::Model;
 
 /// A set of strings of more than 7 bytes, each stored once and shared by `IString::intern`.
 ///
-/// A string stays until `clear`, even if the cache is its only owner. At most 2^32 - 1 strings fit. For untrusted input use a hasher
-/// with a random seed, such as `RandomState`.
+/// The cache owns its strings until `clear`, even if nothing else uses them. The maximum is
+/// `2 ^ 32 - 1` strings. For untrusted input, use a hasher with a random seed, such as
+/// `RandomState`.
 ///
 /// # Cost
 ///
-/// The cache takes 1 KB, inline. Each string takes 24 bytes next to its own allocation, in two lists that double when they are full,
-/// and from 32 strings on 2 to 4 bytes for its bucket. Strings that repeat in the same order are compared and not hashed.
+/// The cache has an inline size of 1 KB. Each string takes 24 bytes in addition to its own
+/// allocation. From 32 strings on, its bucket takes another 2 to 4 bytes. All lists double when
+/// they are full. Strings that repeat in the same order are compared, but not hashed.
 #[derive(Drop)]
 pub struct StringCache<S: BuildHasher> {
     texts: TextTable,
@@ -46,7 +48,7 @@ impl<S: BuildHasher> Model for StringCache<S> {
 }
 
 impl<S: BuildHasher> StringCache<S> {
-    /// Creates an empty cache, which allocates at its first string.
+    /// Creates an empty cache. Allocates when the first string is added.
     pub fn new(alloc: Global, hasher: S) -> StringCache<S>
         ensures { result.texts ≡ set.empty }
     {
@@ -63,15 +65,17 @@ impl<S: BuildHasher> StringCache<S> {
         self.texts.texts().len()
     }
 
-    /// Returns `true` if the cache has no string.
+    /// Returns `true` if the cache contains no strings.
     pub fn is_empty(&self) -> bool
         ensures { result ≡ (set.len self.now.texts == 0) }
     {
         self.len() == 0
     }
 
-    /// Returns `true` if the cache has `text`; it has no string of up to 7 bytes. Expected linear in the
-    /// length.
+    /// Returns `true` if the cache contains `text`.
+    ///
+    /// Strings of up to 7 bytes are inline and never in the cache. The expected time is linear in
+    /// the length of `text`.
     pub fn contains(&self, text: &str) -> bool
         ensures exact { result ≡ set.contains self.now.texts text.now }
         ensures short { length text.now ≤ 7 → result ≡ false }
@@ -80,7 +84,9 @@ impl<S: BuildHasher> StringCache<S> {
         self.texts.find(hash, text).is_some()
     }
 
-    /// Removes every string and keeps the capacity, in time linear in that. Each `IString` stays valid.
+    /// Removes all strings and keeps the capacity. All `IString`s remain valid.
+    ///
+    /// Takes time linear in the capacity.
     pub fn clear(&mut self)
         ensures { self.new.texts ≡ set.empty }
     {
@@ -89,11 +95,12 @@ impl<S: BuildHasher> StringCache<S> {
 
     /// Returns the shared copy of a long `text`, which is added if it is new.
     ///
-    /// If the guess is right, nothing is hashed.
+    /// A correct prediction of the next string saves the hash.
     ///
     /// # Errors
     ///
-    /// If an allocation fails, the cache has 2^32 - 1 strings, or the reference count is saturated. The cache is then unchanged.
+    /// Fails if an allocation fails, the cache has `2 ^ 32 - 1` strings, or the reference count is
+    /// saturated. The cache is then unchanged.
     pub(crate) fn share(&mut self, text: &str) -> Result<IString, AllocError>
         requires { 7 < length text.now }
         ensures text { IfOk result (λ shared. shared ≡ text.now) }
@@ -111,7 +118,7 @@ impl<S: BuildHasher> StringCache<S> {
     }
 }
 
-/// The strings, as a set in insertion order.
+/// Formats the strings as a set, in insertion order.
 impl<S: BuildHasher> fmt::Debug for StringCache<S> {
     fn fmt<W: fmt::Write>(&self, f: &mut fmt::Formatter<W>) -> fmt::Result {
         f.debug_set().entries(self.texts.texts()).finish()

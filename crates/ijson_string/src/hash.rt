@@ -6,10 +6,12 @@ ghost use Rattle.std.specs.Cmp.Lexicographic.{bytes_decides};
 
 use std::hash::{BuildHasher, Hash, Hasher};
 
-/// An odd number whose bits have no pattern: 2^64 divided by the golden ratio.
+/// An odd number whose bits follow no pattern: `2 ^ 64` divided by the golden ratio.
 const MIXER: u64 = 0x9E37_79B9_7F4A_7C15;
 
-/// A string as it is hashed: its bytes in one write, without a terminator, since nothing else is hashed.
+/// The input of a string's hash: its bytes in one write.
+///
+/// A terminator is not needed, because nothing else is hashed.
 #[derive(Clone, Copy, PartialEq, Eq)]
 struct TextBytes<'a> {
     bytes: &'a [u8],
@@ -25,9 +27,9 @@ impl<'a> Hash for TextBytes<'a> {
     }
 }
 
-/// Returns the hash of `text` in 32 bits: the upper half of the product of its hash and `MIXER`.
+/// Returns a 32-bit hash of `text`: the upper half of its 64-bit hash times `MIXER`.
 ///
-/// Each bit of the hash counts in that product, so a hasher may leave some bits constant.
+/// Each bit of the 64-bit hash affects the result, so a hasher may leave some bits constant.
 #[tactic(auto, unfolding(crate::specs::private::Chains::mixed))]
 pub(crate) fn hash_of<S: BuildHasher>(hasher: &S, text: &str) -> u32
     ensures { result ≡ mixed (S.Hasher.finish (fold S.Hasher.write (S.build_hasher hasher.now) (text.now ∷ []))) }

@@ -8,12 +8,13 @@ use std::hash::{BuildHasher, FoldHasher, Hasher};
 use std::io;
 use std::random::RandomSource;
 
-/// A `BuildHasher` of `FoldHasher`s that all start from the same seed.
+/// A `BuildHasher` whose hashers are `FoldHasher`s that start from the same seed.
 ///
-/// Untrusted strings require a secret seed, since `FoldHasher` alone is fixed and public.
+/// For untrusted strings the seed has to be secret, because `FoldHasher` itself is fixed and
+/// public.
 #[derive(Clone, Copy, Drop)]
 pub struct SeededState {
-    /// A hasher that was fed the seed.
+    /// A hasher to which the seed was fed.
     pub start: FoldHasher,
 }
 
@@ -31,7 +32,7 @@ impl SeededState {
     ///
     /// # Errors
     ///
-    /// Fails if the source has no random bytes.
+    /// Fails if the source fails to provide random bytes.
     pub fn from_random(source: &impl RandomSource) -> io::Result<SeededState>
         ensures { IfOk result (λ state. (seed : ℕ) × (seed < 2 ^ 64)
             × (state.start ≡ folding.write folding.initial (fed.le_bytes 8 seed))) }

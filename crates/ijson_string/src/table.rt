@@ -16,13 +16,20 @@ use std::marker::Model;
 
 /// A hash table with separate chaining.
 ///
-/// The strings are in a list, in insertion order, and their links in another. The strings of a bucket form a chain from the newest to
-/// the oldest, so indices fall along it. A chain is walked only if the Bloom filter of its bucket lets the hash pass, which rules out
-/// 39 of 40 absent strings. The bytes of a string are read only if its hash is equal. When strings repeat in one order, as keys do,
-/// `followers` guesses the next one before it is hashed.
+/// The strings are in one list, in insertion order, and their links are in another. The strings of
+/// a bucket form a chain from the newest to the oldest, so indices decrease along a chain.
 ///
-/// A string takes 16 bytes and its link 8, and from 32 strings on there are 2 to 4 for each bucket of 8 bytes. Each list doubles when
-/// it is full. `followers` takes 1 KB, inline. At most 2^32 - 1 strings fit.
+/// A lookup avoids work in three ways:
+///
+/// - `followers` predicts the next string before hashing, if strings repeat in the same order.
+/// - The Bloom filter of a bucket rules out 39 of 40 absent strings without reading the chain.
+/// - The bytes of a string are read only if its hash is equal.
+///
+/// # Cost
+///
+/// A string takes 16 bytes and its link 8. A bucket takes 8 bytes, and from 32 strings on there are
+/// 2 to 4 strings per bucket. Each list doubles when it is full. `followers` takes 1 KB, inline.
+/// The maximum is `2 ^ 32 - 1` strings.
 #[derive(Drop)]
 pub(crate) struct TextTable {
     texts: Vec<IString>,
@@ -68,10 +75,10 @@ impl TextTable {
         &self.texts
     }
 
-    /// Returns the index of `text` if it is the string that followed the current one last time.
+    /// Returns the index of `text` if `text` is the string that last followed the current string.
     ///
-    /// `None` means only that the guess failed. Nothing is hashed, and only a string of the same
-    /// length is read.
+    /// `None` means only that the prediction failed. Nothing is hashed, and only a string of the
+    /// same length is read.
     pub(crate) fn guess(&self, text: &str) -> Option<u32>
         ensures found { IfSome result (λ at. IsTextAt text.now self.now.keys at) }
         ensures taken { (at : ℕ) → IsFollower at (length text.now) self.now.followers → IsTextAt text.now self.now.keys at
@@ -90,7 +97,7 @@ impl TextTable {
 
     /// Returns the index of `text`, whose hash is `hash`.
     ///
-    /// The chain that is walked has at most four strings on average.
+    /// Walks one chain, which has at most four strings on average.
     pub(crate) fn find(&self, hash: u32, text: &str) -> Option<u32>
         ensures found { IfSome result (λ at. IsKeyAt hash text.now self.now.keys at) }
         ensures exact { is_some result ≡ list_any (is_key hash text.now) self.now.keys }
@@ -110,7 +117,12 @@ impl TextTable {
         None
     }
 
-    /// Adds an owner to `text`, the string at `position`, and makes it the current string of `followers`.
+    /// Returns a new owner of `text`, the string at `position`, and makes it the current string of
+    /// `followers`.
+    ///
+    /// # Errors
+    ///
+    /// Fails if the reference count of the string is saturated.
     pub(crate) fn share_at(&mut self, position: u32, text: &str) -> Result<IString, AllocError>
         requires { IsTextAt text.now self.old.keys position }
         ensures text { IfOk result (λ shared. shared ≡ text.now) }
@@ -125,7 +137,7 @@ impl TextTable {
     ///
     /// # Errors
     ///
-    /// If an allocation fails or the table is full. The table is then unchanged.
+    /// Fails if an allocation fails or the table is full. The table is then unchanged.
     pub(crate) fn push(&mut self, hash: u32, text: &str) -> Result<IString, AllocError>
         requires { 7 < length text.now }
         ensures text { IfOk result (λ shared. shared ≡ text.now) }
@@ -156,7 +168,7 @@ impl TextTable {
         Ok(shared)
     }
 
-    /// Removes every string and keeps the capacity, in time linear in that.
+    /// Removes all strings and keeps the capacity. Takes time linear in the capacity.
     pub(crate) fn clear(&mut self)
         ensures { self.new ≡ record self.old { keys = [] } }
     {

@@ -22,16 +22,21 @@ use std::marker::Model;
 use std::mem::size_of;
 use std::rc::{Rc, RcStr};
 
-/// An immutable UTF-8 string of 16 bytes.
+/// An immutable UTF-8 string. The size of an `IString` is 16 bytes.
 ///
-/// Up to 7 bytes are inline. A longer string is shared with its clones and with the cache that interned it, and its last owner frees
-/// it. Equality, order and hash are those of the bytes, independent of the cache.
+/// Up to 7 bytes are inline. A longer string is shared with its clones and with the cache that
+/// interned it, and its last owner frees it. Equality, order and hash depend only on the bytes, not
+/// on the cache.
 #[derive(Drop)]
 pub struct IString {
     stored: Stored,
 }
 
-/// A string by its length: inline; in one block with its two reference counts; or in two blocks, if it is longer than 71 bytes.
+/// A string, stored by its length.
+///
+/// - Up to 7 bytes: inline.
+/// - Up to 71 bytes: in one allocation with the reference counts.
+/// - More than 71 bytes: in two allocations.
 #[derive(Drop)]
 enum Stored {
     InPlace(Block<7>),
@@ -57,7 +62,7 @@ impl Model for IString {
 }
 
 impl IString {
-    /// Creates the empty string. Does not allocate.
+    /// Creates an empty string. Does not allocate.
     pub fn new() -> IString
         ensures { result ≡ [] }
     {
@@ -66,20 +71,25 @@ impl IString {
         }
     }
 
-    /// Returns `text` inline, if it has up to 7 bytes, and otherwise its shared copy in `cache`, which is added if it is new.
+    /// Returns `text` as an inline string if it has up to 7 bytes, otherwise as a string shared
+    /// through `cache`.
+    ///
+    /// A long string is added to the cache if it is new.
     ///
     /// # Errors
     ///
-    /// Never for up to 7 bytes. Otherwise if an allocation fails, if the string is new and the cache has 2^32 - 1 strings, and if its
-    /// reference count is saturated. The cache is then unchanged.
+    /// Never fails if `text` has up to 7 bytes. Otherwise fails if an allocation fails, if the
+    /// reference count of the string is saturated, or if the string is new and the cache has
+    /// `2 ^ 32 - 1` strings. The cache is then unchanged.
     ///
     /// # Cost
     ///
-    /// Expected linear in the length. A new string is copied, and the cache grows by doubling.
+    /// The expected time is linear in the length. A new string is copied, and the cache grows by
+    /// doubling.
     ///
     /// ```
     /// let name = IString::intern(&mut cache, "name")?; // inline
-    /// let long = IString::intern(&mut cache, "a longer string")?; // in the cache; the next one shares it
+    /// let long = IString::intern(&mut cache, "a longer string")?; // shared through the cache
     /// ```
     pub fn intern<S: BuildHasher>(
         cache: &mut StringCache<S>,
@@ -102,7 +112,7 @@ impl IString {
     ///
     /// # Errors
     ///
-    /// If the allocation fails.
+    /// Fails if the allocation fails.
     pub(crate) fn long(alloc: Global, text: &str) -> Result<IString, AllocError>
         requires { 7 < length text.now }
         ensures { IfOk result (λ s. s ≡ text.now) }
@@ -133,8 +143,8 @@ impl IString {
 
     /// Returns the length of an inline string, and the string padded with NULs to 7 bytes.
     ///
-    /// Returns `None` for a longer string. The padded string can be tested and appended by moves of
-    /// constant size.
+    /// Returns `None` if the string is longer than 7 bytes. A padded string can be compared and
+    /// appended by moves of constant size.
     #[inline(always)]
     pub fn inline_padded(&self) -> Option<(u8, &str)>
         ensures text { IfSome result (λ x. take x.0 x.1.now ≡ self.now) }
@@ -170,18 +180,18 @@ impl IString {
         self.len() == 0
     }
 
-    /// Returns `true` if the string is `text`. If the lengths differ, no byte is read.
+    /// Returns `true` if the string is equal to `text`. If the lengths differ, no bytes are read.
     pub fn eq_str(&self, text: &str) -> bool
         ensures { IsTrue result ↔ (self.now ≡ text.now) }
     {
         self.as_str() == text
     }
 
-    /// Copies the string into a `String`. The empty string allocates nothing.
+    /// Copies the string into a `String`. Does not allocate if the string is empty.
     ///
     /// # Errors
     ///
-    /// If the allocation fails.
+    /// Fails if the allocation fails.
     pub fn to_owned_string(&self, alloc: Global) -> Result<String, AllocError>
         ensures { IfOk result (λ s. string_bytes s ≡ self.now) }
     {
@@ -189,8 +199,9 @@ impl IString {
     }
 }
 
-/// Copies an inline string, and adds an owner to a longer one, in constant time and without an allocation. Fails only if the reference
-/// count is saturated.
+/// Copies an inline string, and increments the reference count of a longer string.
+///
+/// Takes constant time and does not allocate. Fails only if the reference count is saturated.
 impl Clone for IString {
     ghost is_clone = { λ s copy. copy ≡ s };
 
@@ -209,7 +220,7 @@ impl Clone for IString {
     }
 }
 
-/// By the bytes. If the lengths differ, none is read.
+/// Compares the bytes. If the lengths differ, no bytes are read.
 impl PartialEq for IString {
     ghost eq = { λ x y. pointwise nat_eq x y };
 
@@ -224,7 +235,7 @@ impl Eq for IString {
     ghost laws = { nat_list_eq_equiv };
 }
 
-/// As `cmp`: the order is total.
+/// Returns the result of `cmp`: the order is total.
 impl PartialOrd for IString {
     ghost partial_cmp = { λ x y. Some (slice_cmp nat_cmp x y) };
 
@@ -235,7 +246,7 @@ impl PartialOrd for IString {
     }
 }
 
-/// Lexicographic by the bytes, which is the order of the code points.
+/// Compares the bytes lexicographically, which is the order of the code points.
 impl Ord for IString {
     ghost cmp = { λ x y. slice_cmp nat_cmp x y };
 
@@ -250,7 +261,7 @@ impl Ord for IString {
     }
 }
 
-/// Feeds 3, the length in bytes, and each byte, each by one `write_u64`.
+/// Feeds 3, the length in bytes, and each byte to the hasher, each by one call of `write_u64`.
 impl Hash for IString {
     ghost hash_input = { λ s. flat_map fed.u64 (text_words s) };
 
@@ -266,7 +277,7 @@ impl Hash for IString {
     }
 }
 
-/// Creates the empty string.
+/// Creates an empty string.
 impl Default for IString {
     ghost is_default = { λ s. s ≡ [] };
 
@@ -275,7 +286,7 @@ impl Default for IString {
     }
 }
 
-/// The string, unchanged.
+/// Writes the string unchanged.
 impl fmt::Display for IString {
     ghost output = { λ s. Some s };
 
@@ -284,7 +295,7 @@ impl fmt::Display for IString {
     }
 }
 
-/// The string between quotes, with the escapes of `str`.
+/// Writes the string between quotes, with the escapes of `str`.
 impl fmt::Debug for IString {
     fn fmt<W: fmt::Write>(&self, f: &mut fmt::Formatter<W>) -> fmt::Result {
         fmt::Debug::fmt(self.as_str(), f)

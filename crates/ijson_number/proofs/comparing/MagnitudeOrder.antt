@@ -1,4 +1,4 @@
--- The order of positive numbers, by leading places and digits.
+-- Positive numbers are ordered by the position of their decimal point, then by their digits.
 use Rattle.ijson_number.proofs.Common.{◌≡◌, ◌≢◌, ℕ, suc, ◌+◌, ◌-◌, ◌*◌, ◌^◌, ◌<◌, ◌≤◌, List, [], ◌∷◌, length, get_or, refl, ap, sym, ◌∙◌, arith}
 use Rattle.ijson_number.proofs.Common.{pow-add, ℤ, pos, nat_abs, ◌+ℤ◌, ◌-ℤ◌, ◌<ℤ◌, ◌≤ℤ◌, false, true, int_min, number_from_digits}
 use Rattle.ijson_number.proofs.Common.{number_from_digits_after, AllByRecursion, slice_cmp, Less, Equal, Greater, nat_cmp, int_cmp, ordering_then}
@@ -28,21 +28,21 @@ pos_cmp x y = grind (arith, nat_tests)
 from_first : (d : ℕ) (ds : List ℕ) → number_from_digits 10 (d ∷ ds) ≡ number_from_digits_after 10 d ds
 from_first d ds = let z : 0 * 10 + d ≡ d = omega arith in ap (λ x. number_from_digits_after 10 x ds) z
 
--- appending digits to a number
+-- Appending the digits `ds` to `n` multiplies `n` by ten for each digit and adds the value of `ds`.
 pub number_after_is : (n : ℕ) (ds : List ℕ) → number_from_digits_after 10 n ds ≡ n * 10 ^ length ds + number_from_digits 10 ds
 number_after_is n [] = omega arith
 number_after_is n (d ∷ ds) =
     let t : 10 ^ suc (length ds) ≡ 10 * 10 ^ length ds = pow-succ' 10 (length ds) in
     number_after_is (n * 10 + d) ds ∙ rw (from_first d ds, number_after_is d ds, t) (grind arith)
 
--- the first digit has the weight ten to the number of the others
+-- The value of `d ∷ ds` is `d * 10 ^ length ds` plus the value of `ds`.
 pub number_first : (d : ℕ) (ds : List ℕ) → number_from_digits 10 (d ∷ ds) ≡ d * 10 ^ length ds + number_from_digits 10 ds
 number_first d ds = from_first d ds ∙ number_after_is d ds
 
 abbrev Below : List ℕ → Type 0
 Below ds = AllByRecursion (λ d. d < 10) ds
 
--- the last digit is not 0, if there is one
+-- Holds if the list is empty or its last digit is not 0.
 abbrev LastSome : List ℕ → Type 0
 LastSome ds = 0 < length ds → get_or ds (length ds - 1) 0 ≢ 0
 
@@ -63,14 +63,16 @@ scaled_below ds j h =
     let some = some_places 1 j (omega arith) in
     rw (pow-add 10 (length ds) j) (grind (arith, m, some))
 
--- the first digits decide or, if equal, the digits after them
+-- If `a` and `b` are below `p`, then `d * p + a` and `x * p + b` are ordered by `d` and `x`, then
+-- by `a` and `b`.
 first_digits : (d x p a b : ℕ) → a < p → b < p → nat_cmp (d * p + a) (x * p + b) ≡ ordering_then (nat_cmp d x) (nat_cmp a b)
 first_digits d x p a b h g = by_ranked _ _ _ (nat_cmp d x) (ranked d x _ refl)
     (λ e l. let m : suc d * p ≤ x * p = mul-le-mul_right p l in rw e (nat_below (d * p + a) (x * p + b) (grind (arith, m))))
     (λ e s. rw (e, s) (grind (arith, nat_tests)))
     (λ e l. let m : suc x * p ≤ d * p = mul-le-mul_right p l in rw e (nat_above (d * p + a) (x * p + b) (grind (arith, m))))
 
--- digits with the same leading place compare digit by digit
+-- If `ds` with `j` zeros is as long as `es` with `k` zeros, and neither list ends in 0, their
+-- scaled values are ordered like the lists.
 aligned : (ds es : List ℕ) (j k : ℕ) → Below ds → Below es → LastSome ds → LastSome es → length ds + j ≡ length es + k
     → nat_cmp (number_from_digits 10 ds * 10 ^ j) (number_from_digits 10 es * 10 ^ k) ≡ slice_cmp nat_cmp ds es
 aligned [] [] j k p q l m e = grind (arith, nat_tests)
@@ -84,7 +86,7 @@ aligned (d ∷ ds) (x ∷ es) j k p q l m e =
     (first_digits d x _ _ _ (rw place at (scaled_below ds j p.1)) (scaled_below es k q.1)
     ∙ ap (ordering_then (nat_cmp d x)) (aligned ds es j k p.1 q.1 (last_rest d ds l) (last_rest x es m) place))
 
--- digits without a leading 0 have at least the value ten to the number of the others
+-- Digits without a leading 0 have a value of at least `10 ^ (length ds - 1)`.
 pub number_least : (ds : List ℕ) → 0 < length ds → get_or ds 0 0 ≢ 0 → 10 ^ (length ds - 1) ≤ number_from_digits 10 ds
 number_least [] h n = absurd (omega arith)
 number_least (d ∷ ds) h n =
@@ -92,7 +94,8 @@ number_least (d ∷ ds) h n =
     let m : 1 * 10 ^ length ds ≤ d * 10 ^ length ds = mul-le-mul_right (10 ^ length ds) (omega (arith, n)) in
     rw (e, number_first d ds) (omega arith)
 
--- digits with a smaller leading place have a smaller value
+-- If `length ds + j < length es + k` and `es` does not begin with 0, then the value of `ds` times
+-- `10 ^ j` is less than the value of `es` times `10 ^ k`.
 lower_place : (ds es : List ℕ) (j k : ℕ) → Below ds → 0 < length es → get_or es 0 0 ≢ 0 → length ds + j < length es + k
     → number_from_digits 10 ds * 10 ^ j < number_from_digits 10 es * 10 ^ k
 lower_place ds es j k p s n h =
@@ -125,7 +128,7 @@ module _ (ds es : List ℕ) (e f : ℤ) (p : IsStripped ds) (q : IsStripped es) 
       (λ o h. rw o (aligned ds es j k below_left below_right p.last q.last h))
       (λ o l. rw o (nat_above _ _ (lower_place es ds k j below_right s (p.first s) l)))
 
-  -- the leading places decide, or if they are equal the digits
+  -- Two positive numbers are ordered by the position of their decimal point, then by their digits.
   decided : number_cmp (stored_number false ds e true) (stored_number false es f true)
       ≡ ordering_then (int_cmp (pos (length ds) +ℤ e) (pos (length es) +ℤ f)) (slice_cmp nat_cmp ds es)
   decided =

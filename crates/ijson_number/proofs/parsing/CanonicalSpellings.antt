@@ -1,4 +1,5 @@
--- The general reader's postconditions after it strips zeros, and the number that the parts spell.
+-- Stripping zeros from the parts of a number yields its canonical digits and exponent, and keeps
+-- its value.
 use Rattle.ijson_number.proofs.Common.{◌≡◌, ◌≢◌, ℕ, zero, suc, ◌+◌, ◌-◌, ◌^◌, ◌<◌, ◌≤◌, Bool, false, List, [], ◌∷◌, ◌++◌, length, get_or, replicate}
 use Rattle.ijson_number.proofs.Common.{refl, ap, sym, ◌∙◌, length-append, inl, inr, arith, ℤ, pos, map-append, nil_from_length, All-from_recursion}
 use Rattle.ijson_number.proofs.Common.{number_from_digits, Decimal, IsNum, stored_number, AllDigits, Denotes, Parts, IsSpelled, IsFraction, Spells}
@@ -20,7 +21,7 @@ not_zero_at bs i h l n e = let r = digit_at bs i h l in n (omega arith)
 pub count_is : (front back : List ℕ) → length (digits_from_text (front ++ back)) ≡ length front + length back
 count_is front back = count_of (front ++ back) ∙ length-append front back
 
--- the digits of two texts in order
+-- The digits of `front` followed by the digits of `back` are the digits of `front ++ back`.
 pub joined : (front back one two : List ℕ) → one ≡ digits_from_text front → two ≡ one ++ digits_from_text back
     → two ≡ digits_from_text (front ++ back)
 joined front back one two a b = b ∙ ap (λ x. x ++ digits_from_text back) a ∙ sym (map-append {A = ℕ} {B = ℕ} (λ b. b - 48) front back)
@@ -42,7 +43,8 @@ fraction_digits : (ft f : List ℕ) (p : Bool) → IsFraction ft f p → AllDigi
 fraction_digits [] f p g = rw g.0 tt
 fraction_digits (b ∷ bs) f p g = rw g.2 (IsDigits_all bs g.1)
 
--- digits of which `j` leading and then `k` trailing zeros are stripped
+-- Holds if `w ++ f` are the digits of the parts `p` without their `j` leading zeros, and `a ++ b`
+-- are the digits that remain without `k` trailing zeros. No zeros remain at either end.
 pub record ZerosTaken (text : List ℕ) (p : Parts) (w f a b : List ℕ) (j k : ℕ) : Type 0 where
   pub spelled : IsSpelled text p
   pub front : p.whole ++ p.fraction ≡ replicate j 48 ++ (w ++ f)
@@ -106,7 +108,7 @@ module _ {text : List ℕ} {p : Parts} {w f a b : List ℕ} {j k : ℕ} (taken :
         | inr within ↦ out within
       ]
 
--- a number of at least 10^19 has 20 digits or more
+-- Digits with a value of at least `10 ^ 19` are at least 20 digits.
 pub many_digits : (front back : List ℕ) → AllDigits front → AllDigits back → 10 ^ 19 ≤ value (front ++ back) → 19 < length front + length back
 many_digits front back a b large = elim (cases_lt 19 (length front + length back)) [
   | inl many ↦ many
@@ -117,7 +119,7 @@ many_digits front back a b large = elim (cases_lt 19 (length front + length back
       )
 ]
 
--- the leading zeros, and the text after them
+-- Every list of bytes consists of `j` leading `'0'`s and a list that does not begin with `'0'`.
 front_zeros : (bs : List ℕ) → (j : ℕ) × (t : List ℕ) × (bs ≡ replicate j 48 ++ t) × BeginsWithNoZero t
 front_zeros [] = (0, [], refl, λ l. absurd (omega arith))
 front_zeros (b ∷ bs) =
@@ -135,7 +137,7 @@ back_step b k [] bs e h =
     elim (cases_eq b 48) [ inl is ↦ (suc k, [], rw (is, e) refl, λ l. absurd (omega arith)) | inr n ↦ (k, b ∷ [], rw e refl, λ l e. n e) ]
 back_step b k (c ∷ cs) bs e h = (k, b ∷ c ∷ cs, rw e refl, longer_end b c cs h)
 
--- the trailing zeros, and the text before them
+-- Every list of bytes consists of a list that does not end with `'0'` and `k` trailing `'0'`s.
 back_zeros : (bs : List ℕ) → (k : ℕ) × (s : List ℕ) × (bs ≡ s ++ replicate k 48) × EndsWithNoZero s
 back_zeros [] = (0, [], refl, λ l. absurd (omega arith))
 back_zeros (b ∷ bs) = let r = back_zeros bs in back_step b r.0 r.1 bs r.2 r.3

@@ -1,4 +1,4 @@
--- The number that parts denote.
+-- The parts of a spelled number denote exactly one number.
 use Rattle.ijson_number.proofs.Common.{◌≡◌, ◌≢◌, ℕ, ◌+◌, ◌-◌, ◌*◌, ◌%◌, ◌^◌, ◌<◌, Bool, false, List, [], ◌∷◌, ◌++◌, length, get_or, take, replicate}
 use Rattle.ijson_number.proofs.Common.{refl, ap, sym, ◌∙◌, inl, inr, arith, ℤ, pos, ◌-ℤ◌, ◌≤ℤ◌, ◌||◌, ints, take_more, take_all, nil_from_length}
 use Rattle.ijson_number.proofs.Common.{number_push, number_from_digits, or_parts, Decimal, IsPlain, signed, Parts, IsSpelled, IsFraction, IsExponent}
@@ -16,7 +16,7 @@ denotes_one p n n' h g =
     let r = strips_one (signed p.negative (value (p.whole ++ p.fraction))) (p.exponent -ℤ pos (length p.fraction)) n n' h.0 g.0 in
     same_decimal n.mantissa n'.mantissa n.exponent n'.exponent n.point n'.point r.0 r.1 (h.1 ∙ sym g.1)
 
--- a text spells at most one number
+-- A byte string spells at most one number.
 pub spells_one : (t : List ℕ) (n n' : Decimal) → Spells t n → Spells t n' → n ≡ n'
 spells_one t n n' h g = let e : h.0 ≡ g.0 = spelled_one t h.0 g.0 h.1 g.1 in denotes_one g.0 n n' (rw e at h.2) g.2
 
@@ -81,7 +81,7 @@ no_point [] [] f z a b g h e = (g.0, h.0)
 no_point [] (x ∷ et) f z a b g h e = let r = or_parts a b e in absurd (cc (r.1, h.2))
 no_point (x ∷ ft) et f z a b g h e = let r = or_parts a b e in absurd (cc (r.0, g.3))
 
--- without point and exponent the exponent is the number of zeros
+-- The exponent of a number that was written without a point and an exponent is not negative.
 pub pointless : (t : List ℕ) (p : Parts) (k : ℕ) → IsSpelled t p → p.point ≡ false → pos 0 ≤ℤ exponent_of p.exponent (length p.fraction) k
 pointless t p k s e =
     let r = no_point s.fraction_text s.exponent_text p.fraction p.exponent s.has_point s.has_exponent s.fraction s.exponent

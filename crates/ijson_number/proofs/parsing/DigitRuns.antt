@@ -1,4 +1,4 @@
--- The leading digits of a text, and its one division into parts.
+-- A byte string has at most one division into the parts of a number.
 use Rattle.ijson_number.proofs.Common.{pos, value, ◌≡◌, ℕ, suc, ◌+◌, ◌-◌, ◌<◌, ◌≤◌, List, [], ◌∷◌, ◌++◌, length, get_or, drop, replicate, refl}
 use Rattle.ijson_number.proofs.Common.{◌∙◌, arith, drop_more, AllDigits, IsDigits, BeginsWithNoDigit, Bool, sym, inl, inr}
 use Rattle.ijson_number.proofs.Common.{append_assoc, ℤ, IsMinus, IsWhole, IsFraction, IsExponent, IsSigned, Parts, IsSpelled, IsTail, IsSignTaken}
@@ -34,12 +34,13 @@ pub IsDigits_nonempty : (a : List ℕ) → IsDigits a → 0 < length a
 IsDigits_nonempty [] h = absurd h
 IsDigits_nonempty (x ∷ a) h = omega arith
 
--- digits without a sign are a signed number
+-- Digits without a sign are a signed integer.
 pub digits_signed : (bs : List ℕ) → IsDigits bs → IsSigned bs (pos (value bs))
 digits_signed [] h = absurd h
 digits_signed (b ∷ bs) h = inr (inr (h, refl))
 
--- two divisions of a text after its leading digits are equal
+-- A byte string has only one division into leading digits and a rest that does not begin with a
+-- digit.
 pub one_run : (a b x y : List ℕ) → AllDigits a → AllDigits b → BeginsWithNoDigit x → BeginsWithNoDigit y → a ++ x ≡ b ++ y → (a ≡ b) × (x ≡ y)
 one_run [] [] x y p q n m e = (refl, e)
 one_run [] (d ∷ b) [] y p q n m e = absurd (cc)
@@ -97,14 +98,14 @@ pub whole_all : (bs : List ℕ) → IsWhole bs → AllDigits bs
 whole_all [] h = absurd h
 whole_all (b ∷ bs) h = elim h [ inl e ↦ ((omega arith, omega arith), rw e.1 tt) | inr e ↦ ((omega arith, omega arith), e.2) ]
 
--- a number's text without its sign
+-- Holds if `text` is a number without its sign, with these parts.
 pub record IsUnsigned (text whole fraction : List ℕ) (exponent : ℤ) (point : Bool) : Type 0 where
   pub rest : List ℕ
   pub text_is : text ≡ whole ++ rest
   pub whole_is : IsWhole whole
   pub tail_is : IsTail rest fraction exponent point
 
--- the whole part of an unsigned number is its first run of digits
+-- The whole part of a number without its sign consists of all its leading digits.
 pub unsigned_at : (bytes a rest w f : List ℕ) (z : ℤ) (p : Bool) → bytes ≡ a ++ rest → AllDigits a → BeginsWithNoDigit rest
     → IsUnsigned bytes w f z p → (w ≡ a) × IsTail rest f z p
 unsigned_at bytes a rest w f z p e d n u =
@@ -122,12 +123,12 @@ pub sign_one : (t r r' : List ℕ) (n n' : Bool) → IsSignTaken t n r → IsSig
 sign_one [] r r' n n' g h = elim g [ inl p ↦ absurd (cc) | inr p ↦ elim h [ inl q ↦ absurd (cc) | inr q ↦ (cc, cc) ] ]
 sign_one (b ∷ t) r r' n n' g h = grind arith
 
--- a whole part does not begin with a minus
+-- A byte string that begins with a whole part does not begin with a minus sign.
 pub whole_no_sign : (w rest : List ℕ) → IsWhole w → 0 < length (w ++ rest) → get_or (w ++ rest) 0 0 ≡ 45 → ⊥
 whole_no_sign [] rest h l e = absurd h
 whole_no_sign (b ∷ w) rest h l e = elim h [ inl q ↦ omega arith | inr q ↦ omega arith ]
 
--- the text after a minus or none is that without its sign
+-- Splitting off the optional minus sign of a number leaves its whole part and the bytes after it.
 pub sign_taken : (t minus w rest : List ℕ) (n : Bool) → IsMinus minus n → IsWhole w → t ≡ minus ++ (w ++ rest) → IsSignTaken t n (w ++ rest)
 sign_taken t minus w rest n m whole g = elim m [
   | inl e ↦ inr (g ∙ rw e.0 refl, e.1, λ l q. whole_no_sign w rest whole (rw (g, e.0) at l) (rw (g, e.0) at q))
@@ -156,7 +157,8 @@ spelled_sign t p s =
     let g : t ≡ s.minus_text ++ r = s.text_is ∙ simp append_assoc in
     (r, sign_taken t s.minus_text p.whole (s.fraction_text ++ s.exponent_text) p.negative s.minus s.whole g, u)
 
--- a sign that was split off precedes the rest
+-- If `unsigned` is `text` without its sign, then `text` is an optional minus sign followed by
+-- `unsigned`.
 pub minus_of : (text unsigned : List ℕ) (negative : Bool) → IsSignTaken text negative unsigned
     → (minus : List ℕ) × IsMinus minus negative × (text ≡ minus ++ unsigned)
 minus_of text unsigned negative sign = elim sign [ inl e ↦ (45 ∷ [], inr (refl, e.1), e.0) | inr e ↦ ([], inl (refl, e.1), e.0) ]
@@ -166,7 +168,7 @@ same_parts : (n n' : Bool) (w w' f f' : List ℕ) (z z' : ℤ) (p p' : Bool) →
     a) ≡ record { negative = n'; whole = w'; fraction = f'; exponent = z'; point = p' }
 same_parts n n' w w' f f' z z' p p' a b c d e = rw (a, b, c, d, e) refl
 
--- a text has at most one division into parts
+-- A byte string has at most one division into the parts of a number.
 pub spelled_one : (t : List ℕ) (p q : Parts) → IsSpelled t p → IsSpelled t q → p ≡ q
 spelled_one t p q s s' =
     let x = spelled_sign t p s in

@@ -1,4 +1,5 @@
--- The leading number of a text, with or without an exponent.
+-- The mantissa that was read, with an optional exponent after it, is the number at the start of the
+-- input.
 use Rattle.ijson_number.proofs.Common.{◌≡◌, ◌∙◌, ◌⊎◌, get_or, ℕ, ◌+◌, ◌-◌, ◌<◌, ◌≤◌, ◌^◌, Bool, true, false, List, [], ◌∷◌, ◌++◌, length, drop, take}
 use Rattle.ijson_number.proofs.Common.{refl, sym, subst, ap, append_assoc, arith, ℤ, pos, neg_ℤ, ◌+ℤ◌, ◌-ℤ◌, ◌||◌, ints, length-append}
 use Rattle.ijson_number.proofs.Common.{length-take-le, take-append-drop, AllDigits, IsExponent, IsFraction, IsSpelled, Parts, Spells, value, IsNum}
@@ -14,7 +15,7 @@ use Rattle.ijson_number.proofs.parsing.DigitRuns.{IsDigits_from}
 use Rattle.ijson_number.proofs.parsing.CommonFronts.{behind_taken, digits_end_of, sign_of}
 use Rattle.std.specs.Int.{Width}
 
--- leading digits, with an exponent after them or none
+-- In this module, `text` is the mantissa `f` followed by `rest`.
 module _ (text : List ℕ) (f : Front) (rest : List ℕ) (m : IsMantissa text f rest) where
   abbrev front : List ℕ
   front = m.minus_text ++ (m.whole ++ m.fraction_text)
@@ -28,7 +29,7 @@ module _ (text : List ℕ) (f : Front) (rest : List ℕ) (m : IsMantissa text f 
     point = f.significand.point || written;
   }
 
-  -- the front and the text of an exponent spell these parts
+  -- The mantissa followed by an optional exponent spells the parts of both.
   spelled : (exponent_text : List ℕ) (z : ℤ) (written : Bool) → IsExponent exponent_text z written
       → IsSpelled (front ++ exponent_text) (parts z written)
   spelled exponent_text z written is = record {
@@ -45,7 +46,8 @@ module _ (text : List ℕ) (f : Front) (rest : List ℕ) (m : IsMantissa text f 
     point = refl;
   }
 
-  -- the text up to the end of an exponent of `count` bytes
+  -- The first `f.length + count` bytes of `text` are the mantissa followed by the first `count`
+  -- bytes of `rest`.
   taken : (count : ℕ) → count ≤ length rest → take (f.length + count) text ≡ front ++ take count rest
   taken count within =
       let long : length (front ++ take count rest) ≡ f.length + count =
@@ -55,15 +57,16 @@ module _ (text : List ℕ) (f : Front) (rest : List ℕ) (m : IsMantissa text f 
       ap (λ n. take n text) (sym long) ∙ ap (take (length (front ++ take count rest))) split
       ∙ take-append_seam (front ++ take count rest) (drop count rest)
 
-  -- the text after an exponent of `count` bytes
+  -- The bytes after the first `f.length + count` bytes of `text` are `rest` without its first
+  -- `count` bytes.
   behind : (count : ℕ) → drop (f.length + count) text ≡ drop count rest
   behind count = ap (λ n. drop (n + count) text) m.length_is ∙ ap (drop (length front + count)) m.text_is ∙ drop-append-add front rest count
 
-  -- the text is as long as the front and the rest
+  -- The length of `text` is `f.length` plus the length of `rest`.
   pub whole_length : length text ≡ f.length + length rest
   whole_length = ap length m.text_is ∙ length-append front rest ∙ ap (λ n. n + length rest) (sym m.length_is)
 
-  -- the front and `count` bytes of an exponent spell a number
+  -- The mantissa and an exponent of `count` bytes spell a number within the limits.
   spelled_at : (s : Significand) (z : ℤ) (written : Bool) (count : ℕ) → count ≤ length rest → IsExponent (take count rest) z written
       → IsPowerSmall z → s.negative ≡ f.significand.negative → s.magnitude ≡ f.significand.magnitude
       → s.exponent ≡ f.significand.exponent +ℤ z → s.point ≡ f.significand.point || written
@@ -80,7 +83,8 @@ module _ (text : List ℕ) (f : Front) (rest : List ℕ) (m : IsMantissa text f 
       ≡ significand_number s = rw (negative, point) refl in
       (rw (taken count within) (subst (Spells (front ++ take count rest)) same n.0), subst IsNum same n.1)
 
-  -- a number that they spell, which ends the token
+  -- If the first `f.length + count` bytes of `text` spell the number of `s`, and neither a digit
+  -- nor a letter follows, then `s` is the number at the start of `text`.
   front_of : (s : Significand) (count : ℕ) → count ≤ length rest → EndsToken (drop count rest) → HasNoPoint s.point (drop count rest)
       → Spells (take (f.length + count) text) (significand_number s) × IsNum (significand_number s)
       → s.magnitude ≡ f.significand.magnitude → (neg_ℤ (pos 10050) ≤ℤ s.exponent) × (s.exponent ≤ℤ pos 10050)
@@ -103,7 +107,7 @@ module _ (text : List ℕ) (f : Front) (rest : List ℕ) (m : IsMantissa text f 
         digits_end = rw (behind count) (digits_end_of s.point (drop count rest) ends no_point);
       }
 
--- `e`, a sign or none and digits are an exponent
+-- The letter `e` or `E`, an optional sign and at least one digit are an exponent.
 exponent_at : (b : ℕ) (number digits : List ℕ) (negative : Bool) (count : ℕ) (z : ℤ) → b ≡ 101 ⊎ b ≡ 69
     → IsExponentSignTaken number negative digits
     → 0 < count → count ≤ length digits → AllDigits (take count digits) → z ≡ signed negative (value (take count digits))
@@ -116,16 +120,17 @@ exponent_at b number digits negative count z begins sign some within all is =
     ∙ sym (append_assoc s.0 ds (drop count digits)) in
     (b ∷ (s.0 ++ ds), ap (λ n. b ∷ n) split, (begins, rw is (s.2 ds (IsDigits_from ds (omega (arith, long)) all)), refl))
 
--- four digits have a value below 10^4
+-- Up to four digits have a value below `10 ^ 4`.
 few_small : (ds : List ℕ) → AllDigits ds → length ds ≤ 4 → value ds < 10 ^ 4
 few_small ds all few = let v = value_small ds all in let p = power_le (length ds) 4 few in omega arith
 
--- the digits read after `e` and a sign have a value below 10^4
+-- The digits of an exponent that `take_digits` read have a value below `10 ^ 4`.
 pub digits_few : (digits : List ℕ) (magnitude count : ℕ) → IsTaken 0 digits 4 magnitude count → magnitude < 10 ^ 4
 digits_few digits magnitude count t =
     rw t.value (few_small (take count digits) t.digits (let few = t.few in omega (arith, length-take-le count digits t.within)))
 
--- `e`, the sign and the digits that were read are a leading exponent
+-- If neither a digit nor a letter follows, the letter `e` or `E`, an optional sign and one to four
+-- digits are an exponent at the start of `bytes`.
 pub power_at : (bytes digits : List ℕ) (negative : Bool) (magnitude count : ℕ) (z : ℤ) → 0 < length bytes
     → get_or bytes 0 0 ≡ 101 ⊎ get_or bytes 0 0 ≡ 69
     → IsExponentSignTaken (drop 1 bytes) negative digits → 0 < count → IsTaken 0 digits 4 magnitude count → z ≡ signed negative magnitude
@@ -144,12 +149,13 @@ power_at (b ∷ number) digits negative magnitude count z some begins sign one t
       ends = rw (behind_taken (b ∷ number) digits negative count (omega arith) sign) ends;
     }
 
--- a significand of zero denotes the same number with any exponent
+-- A significand with the magnitude 0 denotes the same number for any exponent.
 zero_same : (negative : Bool) (magnitude : ℕ) (e f : ℤ) (point : Bool) → magnitude ≡ 0
     → significand_number (significand_of negative magnitude e point) ≡ significand_number (significand_of negative magnitude f point)
 zero_same negative magnitude e f point none = zero_number negative magnitude e point none ∙ sym (zero_number negative magnitude f point none)
 
--- the mantissa with the exponent that was read is a number; the exponent of zero is 0
+-- A mantissa with the exponent after it is the number at the start of `text`. The exponent of zero
+-- is set to 0.
 pub front_with : (text rest : List ℕ) (f : Front) (m : IsMantissa text f rest) (power exponent : ℤ) (count : ℕ) → IsPower rest power count
     → (f.significand.magnitude ≡ 0 → exponent ≡ pos 0) → (f.significand.magnitude ≢ 0 → exponent ≡ f.significand.exponent +ℤ power)
     → let s = f.significand in
@@ -181,7 +187,8 @@ front_with text rest f m power exponent count is zero others =
     has_point [] = tt
     has_point (b ∷ bs) = λ h. absurd (cc)
 
--- a significand that ends its token is a leading number
+-- If neither a digit nor a letter follows a mantissa, the mantissa is the number at the start of
+-- `text`.
 pub front_alone : (text rest : List ℕ) (f : Front) → IsMantissa text f rest → EndsToken rest → IsFront text f
 front_alone text rest f m ends =
     let s = f.significand in
@@ -198,6 +205,6 @@ front_alone text rest f m ends =
     integer point [] digits f is h = rw f.0 at is
     integer point (b ∷ bs) digits f is h = absurd (let t : point ≡ true = f.3 in cc)
 
--- a number that fits a width, negated in it
+-- Negating a number in a signed type does not overflow if the result fits the type.
 pub negated : (w : Width) (n : ℕ) → to_z w n ≡ pos n → FitsSigned w (pos 0 -ℤ pos n) → to_z w (of_z w (pos 0 -ℤ to_z w n)) ≡ neg_ℤ (pos n)
 negated w n is fits = rw (is, to_z-of_z w (pos 0 -ℤ pos n) fits) (omega (arith, ints))

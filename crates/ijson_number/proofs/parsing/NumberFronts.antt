@@ -1,4 +1,4 @@
--- How far some number begins with a text.
+-- Reading an input byte by byte finds its longest prefix that can begin a number.
 use Rattle.ijson_number.proofs.Common.{◌≡◌, ◌⊎◌, ℕ, ◌+◌, ◌-◌, ◌<◌, ◌≤◌, Bool, true, false, cond, List, [], ◌∷◌, ◌++◌, length, take, drop, refl, sym, ap, ◌∙◌, inl, inr}
 use Rattle.ijson_number.proofs.Common.{arith, nat_tests, ℤ, Option, Some, None, append_assoc, append-nil, take-append-drop, length-append, ◌||◌, ◌==◌, subst}
 use Rattle.ijson_number.proofs.Common.{take-append_seam, AllDigits, Decimal, EndsToken, IsDigit, IsDigits, IsExponent, IsFraction, IsMinus, IsSigned, IsSpelled}
@@ -36,7 +36,7 @@ after-None : (bs : List ℕ) → after None bs ≡ None
 after-None [] = refl
 after-None (b ∷ bs) = after-None bs
 
--- a state that a digit leads to, and further digits lead back to
+-- Holds if each digit leads from state `s` to state `t`, and from `t` back to `t`.
 record Digits (s t : State) : Type 0 where
   first : (b : ℕ) → is_digit b ≡ true → next s b ≡ Some t
   more : (b : ℕ) → is_digit b ≡ true → next t b ≡ Some t
@@ -71,19 +71,21 @@ signed_after (b ∷ bs) z h = elim h [
 letter_is : (b : ℕ) → b ≡ 101 ⊎ b ≡ 69 → is_letter b ≡ true
 letter_is b h = elim h [ inl e ↦ rw e refl | inr e ↦ rw e refl ]
 
--- the state after an exponent or none
+-- Reading an exponent leads to the state `exponent_digit`. Reading an empty exponent keeps the
+-- state.
 exponent_after : (s : State) → ((b : ℕ) → is_letter b ≡ true → next s b ≡ Some letter) → (et : List ℕ) (z : ℤ) (w : Bool) → IsExponent et z w
     → after (Some s) et ≡ Some (cond w exponent_digit s)
 exponent_after s begins [] z w h = rw h.1 refl
 exponent_after s begins (b ∷ bs) z w h = rw (h.2, begins b (letter_is b h.0)) (signed_after bs z h.1)
 
--- the state after a fraction or none
+-- Reading a fraction leads to the state `fraction_digit`. Reading an empty fraction keeps the
+-- state.
 fraction_after : (s : State) → next s 46 ≡ Some point → (ft f : List ℕ) (p : Bool) → IsFraction ft f p
     → after (Some s) ft ≡ Some (cond p fraction_digit s)
 fraction_after s begins [] f p h = rw h.1 refl
 fraction_after s begins (b ∷ bs) f p h = rw (h.0, h.3, begins) (digits_after point fraction_digit of_point bs h.1)
 
--- the state after a whole part
+-- The state after a whole part is read.
 abbrev whole_state : List ℕ → State
 whole_state [] = minus
 whole_state (b ∷ bs) = cond (b == 48) zero_digit whole_digit
@@ -110,7 +112,8 @@ whole_after (b ∷ bs) x h = elim h [
       )
 ]
 
--- the state after a minus or none and a whole part
+-- Reading an optional minus sign and a whole part leads from `start` to the `whole_state` of the
+-- part.
 begun_after : (m w x : List ℕ) (negative : Bool) → IsMinus m negative → IsWhole w → after (Some start) (m ++ (w ++ x)) ≡ after (Some (whole_state w)) x
 begun_after m w x negative h whole = elim h [
   | inl e ↦ rw e.0 (whole_after w x whole).0
@@ -130,7 +133,7 @@ no_digit b h = false_from_ne_true (is_digit b) (λ e. h (digit_of b e))
 pub other : (b k : ℕ) → (b ≡ k → ⊥) → (b == k) ≡ false
 other b k h = grind (arith, nat_tests)
 
--- where a tail ends
+-- The state after an optional fraction and an optional exponent are read in state `s`.
 abbrev tail_state : (s : State) (has_point has_exponent : Bool) → State
 tail_state s p w = cond w exponent_digit (cond p fraction_digit s)
 
@@ -145,7 +148,8 @@ tail_after s k ft et f z p w g h =
     letter_next b l true = grind (arith, nat_tests)
     letter_next b l false = elim k [ inl e ↦ rw e (grind (arith, nat_tests)) | inr e ↦ rw e (grind (arith, nat_tests)) ]
 
--- no number goes on after a tail
+-- If the fraction and the exponent end at `rest`, the first byte of `rest` cannot continue the
+-- number.
 tail_stuck : (p w : Bool) (et rest : List ℕ) → (w ≡ false → et ≡ []) → EndsFraction p (et ++ rest) → EndsExponent w rest
     → IsStuck (tail_state zero_digit p w) rest
 tail_stuck p w et [] none f e = tt
@@ -159,14 +163,16 @@ no_exponent_text : (et : List ℕ) (z : ℤ) (w : Bool) → IsExponent et z w �
 no_exponent_text [] z w h e = refl
 no_exponent_text (b ∷ bs) z w h e = absurd (let t : w ≡ true = h.2 in cc)
 
--- a tail has bytes if and only if it has a point or an exponent
+-- An optional fraction and an optional exponent are not empty if and only if a point or an exponent
+-- was written.
 tail_length : (ft et f rest : List ℕ) (z : ℤ) (p w : Bool) → IsFraction ft f p → IsExponent et z w
     → nat_lt (length rest) (length ((ft ++ et) ++ rest)) ≡ p || w
 tail_length [] [] f rest z p w g h = rw (g.1, h.1) (grind (arith, nat_tests))
 tail_length [] (b ∷ et) f rest z p w g h = rw (g.1, h.2) (grind (arith, nat_tests, length-append et rest))
 tail_length (b ∷ ft) et f rest z p w g h = rw g.3 (grind (arith, nat_tests, length-append (ft ++ et) rest))
 
--- a fraction and an exponent, or none, are a tail
+-- If an optional fraction and then an optional exponent are read, `IsTailRead` holds for both
+-- together.
 pub tail_read : (bytes behind rest : List ℕ) (t : Tail) → IsFractionRead bytes t.fraction.now behind
     → IsExponentRead behind t.negative t.exponent.now rest → t.point ≡ nat_lt (length rest) (length bytes) → IsTailRead bytes t rest
 tail_read bytes behind rest t f e shown =
@@ -194,7 +200,7 @@ tail_read bytes behind rest t f e shown =
       };
     }
 
--- a point without a digit after it
+-- A point that is not followed by a digit is an incomplete fraction.
 pub cut_point : (bytes rest : List ℕ) → bytes ≡ 46 ∷ rest → BeginsWithNoDigit rest → IsTailCut bytes rest
 cut_point bytes rest is none = record {
   front = 46 ∷ [];
@@ -219,7 +225,7 @@ cut_point bytes rest is none = record {
     stuck [] h = tt
     stuck (b ∷ rest) h = rw (no_digit b h) refl
 
--- an exponent without digits, after a fraction or none
+-- An optional fraction followed by an exponent without digits is incomplete.
 pub cut_exponent : (bytes fraction behind rest : List ℕ) → IsFractionRead bytes fraction behind → IsExponentCut behind rest → IsTailCut bytes rest
 cut_exponent bytes fraction behind rest f e =
     let front = f.front ++ e.first ∷ e.sign in
@@ -252,7 +258,8 @@ cut_exponent bytes fraction behind rest f e =
     letter_next true b l = grind (arith, nat_tests)
     letter_next false b l = grind (arith, nat_tests)
 
--- an exponent that is read from its first byte on
+-- In this module, `bytes` is the letter `e` or `E`, an optional sign, `digits` and `rest`. `rest`
+-- does not begin with a digit.
 module _ (bytes number digits rest : List ℕ) (negative : Bool) (some : 0 < length bytes) (first : get_or bytes 0 0 ≡ 101 ⊎ get_or bytes 0 0 ≡ 69)
     (taken : IsExponentSignTaken (drop 1 bytes) negative number) (split : number ≡ digits ++ rest) (none : BeginsWithNoDigit rest) where
   pub exponent_read : IsDigits digits → IsExponentRead bytes negative digits rest
@@ -315,7 +322,8 @@ module _ (bytes number digits rest : List ℕ) (negative : Bool) (some : 0 < len
         unfinished = s.5;
       }
 
--- a whole part and what follows it, from the state after it
+-- If no digit follows the whole part, reading halts at the same byte whether the whole part is `0`
+-- or another number.
 whole_goes : (front rest : List ℕ) → BeginsWithNoDigit (front ++ rest) → (h : Halts zero_digit front rest)
     → (k : Halts whole_digit front rest) × (is_final k.at ≡ is_final h.at)
 whole_goes [] rest none h =
@@ -337,14 +345,15 @@ state_goes w front rest whole ends h = elim (whole_cases w whole) [
   ]
 ]
 
--- from the first byte of the number on
+-- If reading the bytes after the whole part halts at `rest`, reading from the first byte of the
+-- number halts at `rest`.
 begun_goes : (m w front rest : List ℕ) (negative : Bool) → IsMinus m negative → IsWhole w → (w ≡ 48 ∷ []) ⊎ BeginsWithNoDigit (front ++ rest)
     → (h : Halts zero_digit front rest) → (k : Halts start (m ++ (w ++ front)) rest) × (is_final k.at ≡ is_final h.at)
 begun_goes m w front rest negative signed_is whole ends h =
     let k = state_goes w front rest whole ends h in
     (record { at = k.0.at; runs = begun_after m w front negative signed_is whole ∙ k.0.runs; stuck = k.0.stuck }, k.1)
 
--- a minus or none, a whole part and the part after it spell these parts
+-- An optional minus sign, a whole part and a tail spell the parts of a number.
 spelled_by : (m w tail f : List ℕ) (negative : Bool) (z : ℤ) (p : Bool) → IsMinus m negative → IsWhole w → IsTail tail f z p
     → IsSpelled (m ++ (w ++ tail)) (record { negative = negative; whole = w; fraction = f; exponent = z; point = p })
 spelled_by m w tail f negative z p signed_is whole t = record {
@@ -361,7 +370,7 @@ spelled_by m w tail f negative z p signed_is whole t = record {
   point = t.point_is;
 }
 
--- nothing, or a minus alone
+-- If no digit follows the optional minus sign of `text`, then `text` does not begin with a number.
 pub cut_whole : (text unsigned : List ℕ) (negative : Bool) → IsSignTaken text negative unsigned → BeginsWithNoDigit unsigned → IsCut text unsigned
 cut_whole text unsigned negative taken none = elim taken [
   | inl m ↦ record {
@@ -405,7 +414,8 @@ cut_whole text unsigned negative taken none = elim taken [
     unsigned_stuck [] h s = tt
     unsigned_stuck (b ∷ rest) h s = rw (other b 45 (s (omega arith))) (stuck (b ∷ rest) h)
 
--- a minus or none and a whole part, before a tail that breaks off
+-- If an incomplete fraction or exponent follows the whole part, `text` does not begin with a
+-- complete number.
 pub cut_tail : (text unsigned whole behind rest : List ℕ) (negative : Bool) → IsSignTaken text negative unsigned
     → IsWholeRead unsigned whole behind → IsTailCut behind rest → IsCut text rest
 cut_tail text unsigned whole behind rest negative taken w t =
@@ -420,7 +430,8 @@ cut_tail text unsigned whole behind rest negative taken w t =
       unfinished = h.1 ∙ t.unfinished;
     }
 
--- a minus or none, a whole part and a tail are a number
+-- If an optional minus sign, a whole part and a tail are read, `IsSpellingRead` holds for all three
+-- together.
 pub spelling_read : (text unsigned behind rest : List ℕ) (s : Spelling) → IsSignTaken text s.negative unsigned
     → IsWholeRead unsigned s.whole.now behind → IsTailRead behind s.tail rest → IsSpellingRead text s rest
 spelling_read text unsigned behind rest s taken w t =
@@ -432,7 +443,8 @@ spelling_read text unsigned behind rest s taken w t =
       halts = (begun_goes m.0 s.whole.now t.front rest s.negative m.1 w.whole_is (rw t.text_is at w.ends) t.halts).0;
     }
 
--- where a number ends, and whether a point or an exponent was written
+-- Holds if `bytes` lead to a final state. If `has_point` is true, the last byte is a fraction digit
+-- or an exponent digit, and otherwise a whole digit.
 record EndsAt (bytes : List ℕ) (has_point : Bool) : Type 0 where
   at : State
   runs : after (Some start) bytes ≡ Some at
@@ -464,7 +476,7 @@ spelled_ends bytes p s =
     s.exponent in
     rw s.point (tail_ends bytes w (whole_cases p.whole s.whole) s.has_point s.has_exponent runs)
 
--- no number goes on where a reader halts
+-- If reading halts before the byte `b`, no number begins with the bytes read followed by `b`.
 halted : (front rest more : List ℕ) (b : ℕ) → Halts start front (b ∷ rest) → (n : Decimal) → Spells ((front ++ b ∷ []) ++ more) n → ⊥
 halted front rest more b h n s =
     let e = spelled_ends ((front ++ b ∷ []) ++ more) s.0 s.1 in
@@ -488,7 +500,8 @@ number_front_of front rest h begins = record {
         let m = rw one at more in
         halted front rest m.0 b h m.1 m.2
 
--- the bytes that a reader reads until it halts are as many as some number begins with
+-- If reading `front` halts and some number begins with `front`, then `front` is the longest prefix
+-- of `text` that can begin a number.
 pub number_front : (text front rest : List ℕ) → text ≡ front ++ rest → Halts start front rest → BeginsNumber front
     → IsNumberFront text (length text - length rest)
 number_front text front rest is h begins =
@@ -508,7 +521,8 @@ rest_dropped text front rest is =
 begins_itself : (bytes : List ℕ) (n : Decimal) → Spells bytes n → BeginsNumber bytes
 begins_itself bytes n s = ([], n, subst (λ b. Spells b n) (sym (append-nil bytes)) s)
 
--- a number that breaks off is why nothing was read
+-- If `text` begins with an incomplete number, the incomplete number is the longest prefix that can
+-- begin a number, and does not spell a number.
 pub cut_unread : (text rest : List ℕ) → IsCut text rest → IsNumberFront text (length text - length rest)
     × ((n : Decimal) → Spells (take (length text - length rest) text) n → ⊥)
 cut_unread text rest c =
@@ -520,7 +534,8 @@ cut_unread text rest c =
           cc,
     )
 
--- no point follows a number without one
+-- If reading halts after a number that was written without a point and an exponent, no point
+-- follows.
 pub point_stops : (front rest : List ℕ) (p : Parts) (n : Decimal) → IsSpelled front p → n.point ≡ p.point → Halts start front rest
     → HasNoPoint n.point rest
 point_stops front [] p n s same h = tt
@@ -535,7 +550,8 @@ point_stops front (b ∷ rest) p n s same h = λ none dot.
 no_letter : (b : ℕ) → is_ascii_alphanumeric b ≡ false → is_letter b ≡ false
 no_letter b h = grind (arith, nat_tests)
 
--- no number goes on after a token and after the digits of a number
+-- If `bytes` are a number and `EndsToken rest` holds, the first byte of `rest` cannot continue the
+-- number.
 token_stuck : (bytes rest : List ℕ) (p : Bool) → (e : EndsAt bytes p) → EndsToken rest → HasNoPoint p rest → IsStuck e.at rest
 token_stuck bytes [] p e ends none = tt
 token_stuck bytes (b ∷ rest) true e ends none =
@@ -552,7 +568,8 @@ pub no_point_of : (p : Bool) (rest : List ℕ) → EndsDigits p rest → HasNoPo
 no_point_of p [] h = tt
 no_point_of p (b ∷ rest) h = h.1
 
--- a common number is as much as some number begins with
+-- If neither a digit nor a letter follows a number, the number is the longest prefix of `text` that
+-- can begin a number.
 pub common_front : (text : List ℕ) (count : ℕ) (n : Decimal) → count ≤ length text → Spells (take count text) n → EndsToken (drop count text)
     → EndsDigits n.point (drop count text) → IsNumberFront text count
 common_front text count n within s ends digits =
@@ -564,7 +581,7 @@ common_front text count n within s ends digits =
     let long : length text - length rest ≡ count = omega (arith, length-take-le count text within, ap length is ∙ length-append front rest) in
     rw long at (number_front text front rest is (record { at = e.at; runs = e.runs; stuck = stuck }) (begins_itself front n s))
 
--- the number of a spelling that was read and denotes `n`
+-- The number that `read_spelling` read is the longest prefix of `text` that can begin a number.
 pub spelling_front : (text rest : List ℕ) (s : Spelling) (r : IsSpellingRead text s rest) → IsNumberFront text (length text - length rest)
 spelling_front text rest s r =
     let n = parts_spell r.front (parts_of s) r.spelled in
@@ -585,7 +602,7 @@ spelling_spells text rest s r n d = (
   rw (rest_dropped text r.front rest r.text_is) (point_stops r.front rest (parts_of s) n r.spelled d.1 r.halts),
 )
 
--- a leading number is no longer than what some number begins with
+-- A number at the start of `text` is at most as long as the longest prefix that can begin a number.
 pub front_within : (text : List ℕ) (count : ℕ) → IsNumberFront text count → (front rest : List ℕ) (n : Decimal) → text ≡ front ++ rest
     → Spells front n → length front ≤ count
 front_within text count f front rest n is s = elim (cases_lt count (length front)) [
@@ -599,14 +616,15 @@ front_within text count f front rest n is s = elim (cases_lt count (length front
   | inr most ↦ omega (arith, most)
 ]
 
--- a text that spells a number is all read
+-- If all of `text` is a number, its longest prefix that can begin a number is all of `text`.
 pub whole_front : (text : List ℕ) (count : ℕ) → IsNumberFront text count → (n : Decimal) → Spells text n → count ≡ length text
 whole_front text count f n s =
     let most = front_within text count f text [] n (sym (append-nil text)) s in
     let within = f.within in
     omega (arith, most)
 
--- a spelling that was read is the whole text if and only if the text spells a number
+-- The bytes after the number that `read_spelling` read are empty if and only if all of `text` is a
+-- number.
 pub spelling_whole : (text rest : List ℕ) (s : Spelling) → IsSpellingRead text s rest → length rest ≡ 0 ↔ ((n : Decimal) × Spells text n)
 spelling_whole text rest s r = (
   λ none. parts_spell text (parts_of s)
@@ -621,11 +639,13 @@ cut_spells text rest c n =
     let e = whole_front text _ u.0 n.0 n.1 in
     u.1 n.0 (rw (take_all (length text - length rest) text (omega (arith, e))) n.1)
 
--- a front that is not the whole text refuses it
+-- If the longest prefix that can begin a number is not all of `text`, parsing `text` fails with
+-- `Invalid`.
 pub part_refused : (text : List ℕ) (count : ℕ) → IsNumberFront text count → (count ≡ length text → ⊥) → IsRefused text parse.Invalid
 part_refused text count f part = λ n s num. part (whole_front text count f n s)
 
--- a text whose leading number breaks off, or is beyond the limit, spells no Num
+-- If reading a number at the start of `text` fails with `Syntax`, parsing `text` fails with
+-- `Invalid`.
 pub cut_refused : (text : List ℕ) (at : ℕ) → IsUnread text (read.Syntax at) → IsRefused text parse.Invalid
 cut_refused text at u n s num =
     let e = whole_front text at u.0 n s in

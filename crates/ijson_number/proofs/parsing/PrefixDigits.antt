@@ -1,4 +1,4 @@
--- Leading digits that are read in steps.
+-- Reading leading digits in two steps reads the same digits as reading them in one step.
 use Rattle.ijson_number.proofs.Common.{◌≡◌, ℕ, ◌+◌, ◌-◌, ◌*◌, ◌^◌, ◌<◌, ◌≤◌, min, List, length, take, drop, sym, ap, ◌∙◌, arith, pow-add, take-add}
 use Rattle.ijson_number.proofs.Common.{inl, inr, cases_lt, mul-le-mul_left}
 use Rattle.std.proofs.Math.Nat.{pow-le-pow_right}
@@ -14,7 +14,8 @@ fewer_digits bytes count most few digits =
     let all : count + (most - count) ≡ most = omega arith in
     AllDigits_left (take count bytes) (take (most - count) (drop count bytes)) (rw (← take-add count (most - count) bytes, all) digits)
 
--- after `count` digits, the remaining ones still fit
+-- After `count` digits are appended to a number, up to `most - count` more digits keep it below
+-- `10 ^ 19`.
 pub room_behind : (number : ℕ) (digits : List ℕ) (count most : ℕ) → AllDigits digits → length digits ≡ count → count ≤ most
     → (number + 1) * 10 ^ most ≤ 10 ^ 19
     → (number_from_digits_after 10 number (digits_from_text digits) + 1) * 10 ^ (most - count) ≤ 10 ^ 19
@@ -29,7 +30,7 @@ room_behind number digits count most all long few buffer =
     let whole : (number + 1) * 10 ^ count * 10 ^ (most - count) ≡ (number + 1) * 10 ^ most = rw (← split) (grind arith) in
     omega arith
 
--- some digits were read, and then those after them
+-- Reading `count` digits and then `more` digits reads `count + more` digits.
 pub taken_behind : (number longer : ℕ) (bytes : List ℕ) (count most longest more : ℕ) → count ≤ most → count ≤ length bytes
     → AllDigits (take count bytes) → longer ≡ number_from_digits_after 10 number (digits_from_text (take count bytes))
     → IsTaken longer (drop count bytes) (most - count) longest more → IsTaken number bytes most longest (count + more)
@@ -46,7 +47,8 @@ taken_behind number longer bytes count most longest more few within digits value
           ∙ number_after_append 10 number (digits_from_text (take count bytes)) (digits_from_text (take more (drop count bytes))));
     }
 
--- up to `most` of the digits among the first 16 bytes
+-- In this module, `count` is the number of leading digits among the first 16 bytes, capped at
+-- `most`.
 module _ (number : ℕ) (bytes : List ℕ) (most found count : ℕ) (buffer : 16 ≤ length bytes) (is : IsCount (chunk 0 16 bytes) found)
     (least : count ≡ min found most) where
   pub few : count ≤ most
@@ -81,7 +83,8 @@ module _ (number : ℕ) (bytes : List ℕ) (most found count : ℕ) (buffer : 16
   at_front : 0 + count ≡ count
   at_front = omega arith
 
-  -- if fewer than 16 and fewer than `most` were read, no digit follows
+  -- If `count` is below 16, reading `count` digits as a vector reads all leading digits, up to
+  -- `most`.
   pub row_taken : count < 16 → IsTaken number bytes most (number * 10 ^ count + value (take count (chunk 0 16 bytes))) count
   row_taken less = record {
     few = few;
@@ -93,7 +96,8 @@ module _ (number : ℕ) (bytes : List ℕ) (most found count : ℕ) (buffer : 16
     value = row_value;
   }
 
-  -- few digits, read one by one
+  -- If `count` is below 16, reading up to `count` digits in a loop reads all leading digits, up to
+  -- `most`.
   pub few_taken : count < 16 → (longer n : ℕ) → IsTaken number bytes count longer n → IsTaken number bytes most longer n
   few_taken less longer n t = record {
     few = omega (arith, few, t.few);
@@ -106,7 +110,8 @@ module _ (number : ℕ) (bytes : List ℕ) (most found count : ℕ) (buffer : 16
     value = t.value;
   }
 
-  -- they fit where `most` fit
+  -- If a number with `most` more digits is below `10 ^ 19`, so is the number with `count` more
+  -- digits.
   pub few_fit : (number + 1) * 10 ^ most ≤ 10 ^ 19 → (number + 1) * 10 ^ count ≤ 10 ^ 19
   few_fit fits =
       let less : (number + 1) * 10 ^ count ≤ (number + 1) * 10 ^ most =

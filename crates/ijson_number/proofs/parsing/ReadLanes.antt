@@ -1,4 +1,4 @@
--- Lanes of a vector: moved to either end, and read as digits.
+-- Vectors of digits: moving the lanes to either end, and computing the value of the digits.
 use Rattle.ijson_number.proofs.Common.{◌≡◌, ℕ, zero, suc, ◌-◌, ◌<◌, ◌≤◌, Bool, true, ◌&&◌, ◌||◌, T, ltb, map, get_or, replicate, List, [], ◌∷◌, ◌++◌}
 use Rattle.ijson_number.proofs.Common.{length, take, drop, refl, sym, subst, ◌∙◌, inl, inr, arith, ⊤, range_with_len, cases_lt, ext_get_or, swz_l}
 use Rattle.ijson_number.proofs.Common.{SwzOk, SwzOk-from_Each1, Each1, chunk, w8, zeroes, rules, ◌/◌, ◌+◌, ◌*◌, ◌%◌, ◌^◌, false, cond, ap, ap₂, not}
@@ -15,7 +15,7 @@ use lib.Bits.{bit_or}
 use lib.Count.{count_trailing_zeros}
 use Rattle.ijson_number.proofs.parsing.DigitValues.{below_base}
 
--- a fact of each number below n
+-- Holds if `P` holds for each number below `n`.
 abbrev Each : (ℕ → Type 0) → ℕ → Type 0
 Each P zero = ⊤
 Each P (suc n) = P n × Each P n
@@ -27,14 +27,15 @@ each P (suc n) k h l = elim (cases_lt k n) [ inl a ↦ each P n k h.1 a | inr a 
 abbrev listed : (ℕ → ℕ) → ℕ → List ℕ
 listed f n = map f (range_with_len 0 n)
 
--- a fact of all lists of n numbers, from that of n numbers written out
+-- If `P` holds for each list of the form `f 0, .., f (n - 1)`, then `P` holds for each list of
+-- length `n`.
 pub spelled : (P : List ℕ → Type 0) (n : ℕ) → ((f : ℕ → ℕ) → P (listed f n)) → (xs : List ℕ) → length xs ≡ n → P xs
 spelled P n h xs long =
     let f = λ (k : ℕ). get_or xs k 0 in
     let many = length-map-range_with_len f 0 n in
     subst P (ext_get_or 0 _ xs (many ∙ sym long) (λ i l. get_or-map-range_with_len f 0 n i i 0 (omega arith) (omega arith))) (h f)
 
--- ---- lanes that are moved to either end
+-- Section: moving the lanes of a vector to either end.
 
 abbrev pub positions : (table : List ℕ) → ℕ → List ℕ
 positions table n = chunk 0 16 (take (32 - n) (drop n table))
@@ -50,20 +51,21 @@ each_position : (js : List ℕ) → T (are_positions js) → Each1 (λ j. T (is_
 each_position [] h = tt
 each_position (j ∷ js) h = (and_l (is_position j) (are_positions js) h, each_position js (and_r (is_position j) (are_positions js) h))
 
--- the indices of a table from n on move the lanes as `to` specifies
+-- Holds if the shuffle indices of `table` from index `n` on move the lanes `xs` to `to xs n`.
 abbrev Moved : (table : List ℕ) (to : List ℕ → ℕ → List ℕ) → List ℕ → ℕ → Type 0
 Moved table to xs n = T (are_positions (positions table n)) × (length (positions table n) ≡ 16)
     × (swz_l w8 16 xs 0 (positions table n) ≡ to xs n)
 
--- the first n lanes at the end, after zeros
+-- The first `n` lanes at the end of a vector, after zeros.
 abbrev to_end : List ℕ → ℕ → List ℕ
 to_end xs n = replicate (16 - n) 0 ++ take n xs
 
--- the lanes from n on at the start, before zeros
+-- The lanes from `n` on at the start of a vector, before zeros.
 abbrev to_front : List ℕ → ℕ → List ℕ
 to_front xs n = drop n xs ++ replicate n 0
 
--- both tables do
+-- Holds if `BACK` moves the first `n` lanes to the end, and `FRONT` moves the lanes from `n` on to
+-- the start.
 abbrev Both : List ℕ → ℕ → Type 0
 Both xs n = Moved BACK to_end xs n × Moved FRONT to_front xs n
 
@@ -86,9 +88,10 @@ pub moved_to_front : (start : ℕ) → start ≤ 16 → (xs : List ℕ) → leng
     → SwzOk w8 16 16 0 (positions FRONT start) × (swz_l w8 16 xs 0 (positions FRONT start) ≡ drop start xs ++ replicate start 0)
 moved_to_front start few xs long = moved FRONT to_front xs start (both start few xs long).1
 
--- ---- digits read in pairs
+-- Section: combining adjacent digits to pairs.
 
--- two digits in 16 bits: their pair in the lower byte, ten times the second in the upper one
+-- The 16-bit lane computed from two digits. The lower byte is the value of both digits, and the
+-- upper byte is ten times the second digit.
 abbrev lane_pair : ℕ → ℕ
 lane_pair z = (z * 10 % 65536 + z / 256) % 65536
 
@@ -132,7 +135,7 @@ below_all : (n : ℕ) (ks : List ℕ) → AllBelowBase n ks → T (all_below n k
 below_all n [] h = tt
 below_all n (k ∷ ks) h = and_both (ltb k n) (all_below n ks) (lt→ltb k n h.0) (below_all n ks h.1)
 
--- the products of the pairs do not overflow
+-- The sums of the weighted pairs of 16 digits do not overflow.
 pub pairs_fit : (xs : List ℕ) → length xs ≡ 16 → AllBelowBase 10 xs → T (all_below 32768 (pair_sums (products (lane_bytes 8 16 xs) PAIRS)))
 pairs_fit xs long = spelled (λ xs. AllBelowBase 10 xs → T (all_below 32768 (pair_sums (products (lane_bytes 8 16 xs) PAIRS)))) 16
     (λ f h. subst (λ l. T (all_below 32768 (pair_sums (products l PAIRS)))) (sym (bytes_are (listed f 16) h))
@@ -177,12 +180,12 @@ row_is xs long = spelled (λ xs. AllBelowBase 10 xs → IsRow xs) 16 (λ f h.
       omega (arith, a, b, c, d),
     )) xs long
 
--- ---- powers of ten
+-- Section: powers of ten.
 
 pub power_is : (count : ℕ) → count ≤ 16 → get_or POWERS count 0 ≡ 10 ^ count
 power_is count few = each (λ k. get_or POWERS k 0 ≡ 10 ^ k) 17 count (search rules) (omega arith)
 
--- ---- the values of bytes that are digits
+-- Section: the values of ASCII digits.
 
 abbrev pub digit_lanes : List ℕ → List ℕ
 digit_lanes bytes = zip2 (λ a b. (a + (2 ^ 8 - b)) % 2 ^ 8) bytes (replicate 16 48)
@@ -204,7 +207,8 @@ number_of_zeros : (k : ℕ) (ds : List ℕ) → number_from_digits 10 (replicate
 number_of_zeros zero ds = refl
 number_of_zeros (suc k) ds = number_of_zeros k ds
 
--- the leading digits, moved to the end
+-- In this module, the first `count` bytes are digits, and their values are moved to the end of a
+-- vector.
 module _ (bytes : List ℕ) (long : length bytes ≡ 16) (count : ℕ) (digits : AllDigits (take count bytes)) where
   moved_digits : replicate (16 - count) 0 ++ take count (digit_lanes bytes) ≡ replicate (16 - count) 0 ++ digits_from_text
       (take count bytes)
@@ -217,7 +221,7 @@ module _ (bytes : List ℕ) (long : length bytes ≡ 16) (count : ℕ) (digits :
   pub moved_value : number_from_digits 10 (replicate (16 - count) 0 ++ take count (digit_lanes bytes)) ≡ value (take count bytes)
   moved_value = ap (number_from_digits 10) moved_digits ∙ number_of_zeros (16 - count) (digits_from_text (take count bytes))
 
--- ---- which bytes are digits
+-- Section: counting the leading digits of a vector.
 
 abbrev mark : ℕ → ℕ
 mark b = bit_or (cond (ltb b 48) 255 0) (cond (ltb 57 b) 255 0)
@@ -271,11 +275,12 @@ module _ (bytes : List ℕ) (long : length bytes ≡ 16) where
         stops = λ l. other_is (get_or bytes n 0) (rw is (prefix_len_stops q bytes 0 (omega (arith, is))));
       }
 
-  -- without other bytes all are digits
+  -- If the mask of bytes that are not digits is 0, all 16 bytes are digits.
   pub count_of_all : others bytes ≡ 0 → IsCount bytes 16
   count_of_all none = count_is 16 (sym long ∙ sym (leading_from_mask_l is_other bytes (sym others_are ∙ none)))
 
-  -- otherwise the lowest set bit is that of the first byte that is no digit
+  -- If the mask of bytes that are not digits is not 0, the number of leading digits is the index of
+  -- its lowest set bit.
   pub count_of_some : 0 < others bytes → IsCount bytes (count_trailing_zeros 64 (others bytes))
   count_of_some some = rw others_are
       (count_is (count_trailing_zeros 64 (mask_l (map is_other bytes)))

@@ -1,4 +1,4 @@
--- The bytes of a text that spells a number.
+-- The bytes of a JSON number.
 use Rattle.ijson_number.proofs.Common.{◌≡◌, ℕ, ◌≤◌, Bool, List, [], ◌∷◌, ◌++◌, refl, ◌∙◌, inl, inr, arith, append_assoc, ℤ, IsTrue, ◌||◌, ◌==◌}
 use Rattle.ijson_number.proofs.Common.{AllByRecursion, le-leb, Decimal, AllDigits, IsMinus, IsWhole, IsFraction, IsSigned, IsExponent, Spells, ap₂}
 use Rattle.ijson_number.specs.NumberBytes.{is_digit, is_number_byte}
@@ -37,7 +37,7 @@ exponent_bytes : (et : List ℕ) (z : ℤ) (w : Bool) → IsExponent et z w → 
 exponent_bytes [] z w h = tt
 exponent_bytes (b ∷ bs) z w h = (elim h.0 [ inl e ↦ rw e refl | inr e ↦ rw e refl ], signed_bytes bs z h.1)
 
--- each byte of a text that spells a number is a number byte
+-- Each byte of a JSON number satisfies `is_number_byte`.
 pub spells_bytes : (text : List ℕ) (n : Decimal) → Spells text n → AllByRecursion (λ b. IsTrue (is_number_byte b)) text
 spells_bytes text n s =
     let q = s.1 in
@@ -61,7 +61,7 @@ begins_with m w rest negative h g =
       | inr e ↦ (45, w ++ rest, refl, rw e.0 refl)
     ]
 
--- a text that spells a number begins with a digit or a minus
+-- A JSON number begins with a digit or a minus sign.
 pub spells_first : (text : List ℕ) (n : Decimal) → Spells text n
     → (b : ℕ) × (more : List ℕ) × IsTrue (is_digit b || (b == 45)) × (text ≡ b ∷ more)
 spells_first text n s =

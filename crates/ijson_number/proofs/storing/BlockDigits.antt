@@ -1,4 +1,4 @@
--- The digits of a block, computed by a vector.
+-- A vector computes the canonical digits of a number that is stored in a block.
 use Rattle.ijson_number.proofs.Common.{◌≡◌, ◌∙◌, inl, inr, ℕ, zero, suc, ◌+◌, ◌-◌, ◌*◌, ◌/◌, ◌%◌, ◌^◌, ◌<◌, ◌≤◌, ◌++◌, List, [], ◌∷◌, map, drop}
 use Rattle.ijson_number.proofs.Common.{length, length-drop, refl, sym, ap, ap₂, arith, decimal, AllBelowBase, digits_of, drop-map, decimal-digits_of}
 use Rattle.ijson_number.proofs.Common.{bool_byte, all_below_base_digits_of, digits_of_step, append-nil, map-append, take_all, zip2_splat, cases_lt}
@@ -9,7 +9,7 @@ use Rattle.ijson_number.proofs.writing.LastDigits.{front_is, joined, last_count}
 use Rattle.ijson_number.proofs.parsing.ReadLanes.{digit_lanes}
 use Rattle.ijson_number.proofs.writing.DigitTexts.{read_back}
 
--- the text of a number, converted to digits
+-- Converting the decimal text of `n` to digits yields the digits of `n`.
 pub made : (n start : ℕ) (text buffer : List ℕ) → 0 < n → n < 2 ^ 64 → drop start text ≡ decimal n ++ [] → buffer ≡ digits_from_text text
     → drop start buffer ≡ digits_of 10 n
 made n start text buffer some word written is =
@@ -20,7 +20,7 @@ digits_back : (ds : List ℕ) → AllBelowBase 10 ds → map (λ a. (a + (2 ^ 8 
 digits_back [] h = refl
 digits_back (d ∷ ds) h = ap₂ ◌∷◌ (omega (arith, h.0)) (digits_back ds h.1)
 
--- the digits after the leading zeros of 16 lanes
+-- Among the 16 digits of `n`, the digits after the leading zeros are the digits of `n`.
 pub row_digits : (n zeros : ℕ) (lanes : List ℕ) → 0 < n → n < 10 ^ 16 → length lanes ≡ 16 → lanes ≡ last_digits 16 n
     → IsZerosInFront lanes zeros → drop zeros (digit_lanes lanes) ≡ digits_of 10 n
 row_digits n zeros lanes some small long is counted =
@@ -34,7 +34,7 @@ row_digits n zeros lanes some small long is counted =
     ∙ ap (map (λ a. (a + (2 ^ 8 - 48)) % 2 ^ 8)) (shown ∙ decimal-digits_of n some (omega arith))
     ∙ digits_back (digits_of 10 n) (all_below_base_digits_of 10 n (omega arith))
 
--- the last digits of a number, less '0'
+-- Subtracting `'0'` from the last `count` digits in ASCII yields their values.
 values : (count n : ℕ) → map (λ a. (a + (2 ^ 8 - 48)) % 2 ^ 8) (last_digits count n) ≡ digits_from_text (last_digits count n)
 unfolding last_digits
 values zero n = refl
@@ -44,11 +44,12 @@ values (suc k) n =
     map-append (λ a. (a + (2 ^ 8 - 48)) % 2 ^ 8) front ((48 + n % 10) ∷ []) ∙ ap₂ ◌++◌ (values k (n / 10)) (λ i. last i ∷ [])
     ∙ sym (map-append (λ b. b - 48) front ((48 + n % 10) ∷ []))
 
--- the last digits of a number in 16 lanes, less '0'
+-- Subtracting `'0'` from a vector of 16 digits in ASCII yields their values.
 pub row_values : (n : ℕ) (lanes : List ℕ) → lanes ≡ last_digits 16 n → digit_lanes lanes ≡ digits_from_text (last_digits 16 n)
 row_values n lanes is = rw is (zip2_splat (λ a b. (a + (2 ^ 8 - b)) % 2 ^ 8) (last_digits 16 n) 16 48 (last_count 16 n) ∙ values 16 n)
 
--- the digits of a number of more than 16 digits are those before the last 16, and these
+-- The digits of a number of more than 16 digits are its leading digits followed by its last 16
+-- digits.
 pub wide_digits : (n : ℕ) → 10 ^ 16 ≤ n → n < 2 ^ 64
     → digits_of 10 n ≡ digits_of 10 (n / 10 ^ 16) ++ digits_from_text (last_digits 16 (n % 10 ^ 16))
 wide_digits n wide word =
@@ -62,7 +63,7 @@ wide_digits n wide word =
     ∙ map-append (λ b. b - 48) (digits_text (digits_of 10 front)) (last_digits 16 back)
     ∙ ap (λ l. l ++ digits_from_text (last_digits 16 back)) (read_back (digits_of 10 front))
 
--- the digits of a number of at most three digits, without leading zeros
+-- A number from 1 to 9 consists of one digit.
 below_ten : (n : ℕ) → 0 < n → n < 10 → digits_of 10 n ≡ n % 10 ∷ []
 below_ten n some few =
     let none : n / 10 ≡ 0 = omega arith in

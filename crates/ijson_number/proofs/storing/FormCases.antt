@@ -1,4 +1,5 @@
--- Stored parts: those of equal numbers, their words, and their form, case by case.
+-- Numbers stored as a sign, digits and an exponent: when they are equal, which words they feed to a
+-- hasher, and how their representation is selected.
 use Rattle.ijson_number.proofs.Common.{◌≡◌, ℕ, Bool, true, false, List, [], ◌∷◌, refl, ap, ap₂, sym, ◌∙◌, arith, ℤ, pos, nat_abs, int_lt, not}
 use Rattle.ijson_number.proofs.Common.{number_from_digits, both_ways, is_eq, pointwise, false_from_ne_true, Decides-eqb, Decimal, signed}
 use Rattle.ijson_number.proofs.Common.{digits_within, number_eq, decimal_of, IsStored, equal_same, same_equal, tests_equal, ◌<◌, length, nat_eq, ◌+ℤ◌}
@@ -16,14 +17,15 @@ use Rattle.ijson_number.specs.Words.{number_words}
 use Rattle.ijson_number.proofs.BooleanTests.{test_le, le_test, not_zero}
 use Rattle.ijson_number.proofs.storing.WholeValues.{abs_times}
 
--- the sign of stored parts is that of their mantissa
+-- The mantissa assembled from a sign and stored digits is below 0 if and only if `negative` is
+-- true.
 pub stored_sign : (negative : Bool) (ds : List ℕ) → IsStored negative ds → int_lt (signed negative (number_from_digits 10 ds)) (pos 0) ≡ negative
 stored_sign negative [] k = rw (k.no_minus refl) refl
 stored_sign negative (d ∷ ds) k =
     let n = stripped_mod (d ∷ ds) k.stripped (omega arith) in
     below_zero negative (number_from_digits 10 (d ∷ ds)) (omega (arith, n))
 
--- a test of two signs
+-- If the test `m != n` returns `false`, the signs `m` and `n` are equal.
 pub same_signs : (m n : Bool) → not (beq m n) ≡ false → m ≡ n
 same_signs m n h = grind arith
 
@@ -47,27 +49,29 @@ module _ (x y : StrippedNumber) (a b : Decimal) (view : decimal_of x ≡ a) (vie
   parts_equal : x.negative ≡ y.negative → x.digits.now ≡ y.digits.now → x.exponent ≡ y.exponent → number_eq a b ≡ true
   parts_equal s d e = sym (ap₂ number_eq view view') ∙ ap is_eq (same_equal (decimal_of x) (decimal_of y) (rw (s, d) refl) e)
 
-  -- two numbers with equal signs and exponents are equal if and only if their digits are
+  -- Two numbers with the same sign and the same exponent are equal if and only if their digits are
+  -- equal.
   pub digits_tell : (r : Bool) → x.negative ≡ y.negative → x.exponent ≡ y.exponent → r ≡ pointwise eqb x.digits.now y.digits.now
       → r ≡ number_eq a b
   digits_tell r s e d =
       let tells = slice_eq-Decides Decides-eqb x.digits.now y.digits.now r d in
       both_ways r (number_eq a b) (λ t. parts_equal s (tells.0 t) e) (λ t. tells.1 (equal_digits t))
 
-  -- numbers with different signs differ
+  -- Numbers with different signs are not equal.
   pub signs_tell : (x.negative ≡ y.negative → ⊥) → false ≡ number_eq a b
   signs_tell h = sym (false_from_ne_true (number_eq a b) (λ is. h (equal_sign is)))
 
-  -- numbers with different exponents differ
+  -- Numbers with different canonical exponents are not equal.
   pub exponents_tell : (x.exponent ≡ y.exponent → ⊥) → false ≡ number_eq a b
   exponents_tell h = sym (false_from_ne_true (number_eq a b) (λ is. h (mantissa_exponent is).1))
 
 module _ (x : StrippedNumber) (n : Decimal) (view : decimal_of x ≡ n) where
-  -- zero feeds two words
+  -- Zero feeds the words 2 and 0 to a hasher.
   pub zero_words : length x.digits.now ≡ 0 → number_words n ≡ 2 ∷ 0 ∷ []
   zero_words h = ap number_words (sym view) ∙ rw (nil_from_length x.digits.now h, signed_nought x.negative) refl
 
-  -- a nonzero number feeds its parts
+  -- A nonzero number feeds 2, its sign, its exponent, the number of its digits, and its digits to a
+  -- hasher.
   pub stored_words : 0 < length x.digits.now → number_words n
       ≡ 2 ∷ (if x.negative then 2 else 1) ∷ nat_abs (x.exponent +ℤ pos 2147483648) ∷ length x.digits.now ∷ x.digits.now
   stored_words h =
@@ -82,18 +86,19 @@ module _ (x : StrippedNumber) (n : Decimal) (view : decimal_of x ≡ n) where
         stored_digits_are x.negative x.digits.now x.exponent x.point x.stripped.stripped,
       ) refl
 
--- a test that holds selects the first, and one that fails the second
+-- A conditional is equal to its first branch if the condition is true.
 pub taken : (b : Bool) (x y : FormOf) → b ≡ true → (let r : FormOf = elim b [ true ↦ x | false ↦ y ] in r) ≡ x
 taken b x y e = rw e refl
 
 pub left : (b : Bool) (x y : FormOf) → b ≡ false → (let r : FormOf = elim b [ true ↦ x | false ↦ y ] in r) ≡ y
 left b x y e = rw e refl
 
--- a packed form by its parts
+-- Packed representations with equal parts are equal.
 pub packed_is : (m m' e e' : ℤ) (p p' : Bool) → m ≡ m' → e ≡ e' → p ≡ p' → packed m e p ≡ packed m' e' p'
 packed_is m m' e e' p p' a b c = rw (a, b, c) refl
 
--- the digits of stored parts
+-- Converting stored digits to a number and back to a list of digits keeps the sign, the digits, the
+-- exponent and `point`.
 pub stored_form : (negative : Bool) (ds : List ℕ) (e : ℤ) (point : Bool) → IsStored negative ds
     → digits_form (stored_number negative ds e point) ≡ digits negative ds e point
 stored_form negative ds e point k = rw (stored_sign negative ds k, stored_digits_are negative ds e point k.stripped) refl
@@ -101,7 +106,7 @@ stored_form negative ds e point k = rw (stored_sign negative ds k, stored_digits
 pub large_not_packed : (z : ℤ) → 2 ^ 64 ≤ nat_abs z → fits_packed z ≡ false
 large_not_packed z h = grind (arith, ints)
 
--- a large integer is stored by its digits
+-- An integer whose absolute value is at least `2 ^ 64` is stored as a list of digits.
 pub large_integer : (n : Decimal) (z : ℤ) → 2 ^ 64 ≤ nat_abs z → integer_form n z ≡ digits_form n
 large_integer n z h =
     let signed : fits_i64 z ≡ false = grind (arith, ints) in
@@ -125,19 +130,20 @@ module _ (n : Decimal) (k : ℕ) (whole : pos 0 ≤ℤ n.exponent) (so_far : for
     same : here ≡ m
     same = ap (λ j. n.mantissa *ℤ pos (10 ^ j)) (let e : nat_abs (n.exponent -ℤ pos k) ≡ nat_abs n.exponent - k = omega (arith, ints) in e) ∙ sym e
 
-    -- the exponent k, if its mantissa fits
+    -- If the mantissa fits at exponent `k` and not at any smaller exponent, the number is packed
+    -- with the exponent `k`.
     pub packed_here : fits_packed m ≡ true → form_of n ≡ packed m (pos k) true
     packed_here f =
         let test = and_from (int_le (pos k) n.exponent) (fits_packed here)
         (le_test (pos k) n.exponent (omega (arith, ints))) (ap fits_packed same ∙ f) in
         now ∙ taken (int_le (pos k) n.exponent && fits_packed here) (packed here (pos k) true) rest test ∙ ap (λ x. packed x (pos k) true) same
 
-    -- a larger exponent, if the mantissa is too large
+    -- If the mantissa does not fit at exponent `k`, the search continues at exponent `k + 1`.
     pub too_large_here : fits_packed m ≡ false → form_of n ≡ smallest_packed (8 - (k + 1)) (k + 1) n
     too_large_here f = now ∙ left (int_le (pos k) n.exponent && fits_packed here) (packed here (pos k) true) rest
         (and_right (int_le (pos k) n.exponent) (fits_packed here) (ap fits_packed same ∙ f)) ∙ on
 
-  -- a larger exponent, if k exceeds the exponent of the number
+  -- If `k` exceeds the exponent of the number, the search continues at exponent `k + 1`.
   pub past_exponent : nat_abs n.exponent < k → form_of n ≡ smallest_packed (8 - (k + 1)) (k + 1) n
   past_exponent h =
       let fails = false_from_ne_true (int_le (pos k) n.exponent)
@@ -145,7 +151,7 @@ module _ (n : Decimal) (k : ℕ) (whole : pos 0 ≤ℤ n.exponent) (so_far : for
       now ∙ left (int_le (pos k) n.exponent && fits_packed here) (packed here (pos k) true) rest
       (and_left (int_le (pos k) n.exponent) (fits_packed here) fails) ∙ on
 
--- a mantissa that exceeds a word
+-- In this module, the absolute value of the mantissa is at least `2 ^ 64`.
 module _ (n : Decimal) (long : 2 ^ 64 ≤ nat_abs n.mantissa) where
   long_scaled : (k : ℕ) → 2 ^ 64 ≤ nat_abs (n.mantissa *ℤ pos (10 ^ k))
   long_scaled k =
@@ -166,7 +172,8 @@ module _ (n : Decimal) (long : 2 ^ 64 ≤ nat_abs n.mantissa) where
   either_digits true x y p q = p
   either_digits false x y p q = q
 
-  -- the number is stored by its digits
+  -- A number whose mantissa has an absolute value of at least `2 ^ 64` is stored as a list of
+  -- digits.
   pub long_form : form_of n ≡ digits_form n
   long_form = by_point n.point refl
     where

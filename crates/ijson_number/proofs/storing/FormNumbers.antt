@@ -1,4 +1,4 @@
--- The number of a number's form is that number.
+-- The representation of a number denotes that number.
 use Rattle.ijson_number.proofs.Common.{◌≡◌, ◌≢◌, ℕ, zero, suc, ◌*◌, ◌/◌, ◌%◌, ◌^◌, ◌<◌, Bool, true, false, refl, ap, sym, ◌∙◌, inl, inr, subst, arith}
 use Rattle.ijson_number.proofs.Common.{ℤ, pos, negsuc, nat_abs, nat_eq, int_le, int_lt, ◌*ℤ◌, ◌+ℤ◌, ◌-ℤ◌, ◌≤ℤ◌, ◌&&◌, number_from_digits, pow-succ'}
 use Rattle.ijson_number.proofs.Common.{ints, number_digits_of, and_parts, Decimal, IsPlain, FormOf, packed, fits_packed, fits_i64, fits_u64}
@@ -53,7 +53,7 @@ module _ (m e : ℤ) (n : Decimal) (small : nat_abs m < 10 ^ 20) (s : Strips m e
         (λ _. rw (abs_signed (int_lt m (pos 0)) out.0) tens.1) s.plain.stripped (sym scaled ∙ is) in
         (r.0, (let j = r.1 (λ z. some (scaled ∙ rw z (let w : 0 * 10 ^ out.1 ≡ 0 = omega arith in ap pos w))) in omega (arith, ints, x)))
 
-  -- stripping the trailing zeros of the mantissa yields the number
+  -- If `n` is `m * 10 ^ e` without trailing zeros, stripping the trailing zeros of `m` yields `n`.
   pub stripped_is : stripped_number m e n.point ≡ n
   stripped_is =
       elim (zero_or_not m) [
@@ -67,12 +67,12 @@ module _ (m e : ℤ) (n : Decimal) (small : nat_abs m < 10 ^ 20) (s : Strips m e
         ]
       ]
 
--- a nonnegative number is its absolute value
+-- An integer that fits a `u64` is equal to its absolute value.
 pub not_below : (z : ℤ) → fits_u64 z ≡ true → pos (nat_abs z) ≡ z
 not_below z t = grind (arith, ints)
 
 module _ (n : Decimal) (plain : IsPlain n) where
-  -- the digits of the mantissa
+  -- If `n` is stored as a list of digits, the list denotes `n`.
   pub digits_case : form_number (digits_form n) ≡ n
   digits_case =
       let magnitude = nat_abs n.mantissa in
@@ -81,7 +81,7 @@ module _ (n : Decimal) (plain : IsPlain n) where
       same_decimal _ n.mantissa n.exponent n.exponent n.point n.point
       (ap (signed (int_lt n.mantissa (pos 0))) is ∙ sign_and_magnitude n.mantissa) refl refl
 
-  -- a mantissa with some trailing zeros kept
+  -- If `n` is packed with some trailing zeros in its mantissa, the packed number denotes `n`.
   packed_case : (k : ℤ) (m : ℤ) → k ≤ℤ n.exponent → m ≡ n.mantissa *ℤ pos (10 ^ nat_abs (n.exponent -ℤ k)) → nat_abs m < 10 ^ 20
       → stripped_number m k n.point ≡ n
   packed_case k m h is small = stripped_is m k n small (record { plain = plain; tens = inr (nat_abs (n.exponent -ℤ k), is, gap n.exponent k h) })
@@ -130,7 +130,7 @@ module _ (n : Decimal) (plain : IsPlain n) where
       ap (λ p. stripped_number n.mantissa n.exponent p) (sym h)
       ∙ packed_case n.exponent n.mantissa (omega (arith, ints)) no_tens (grind (arith, ints))
 
-  -- the number of a number's form is that number
+  -- The representation of `n` denotes `n`.
   pub number_of_form : form_number (form_of n) ≡ n
   number_of_form =
       either n.point _ _
@@ -138,7 +138,7 @@ module _ (n : Decimal) (plain : IsPlain n) where
       (λ _. either (int_le (negsuc 6) n.exponent && fits_packed n.mantissa) _ _ (fraction_test h) (λ _. digits_case)))
       (λ h. integer_case (n.mantissa *ℤ pos (10 ^ nat_abs n.exponent)) h refl)
 
--- a form of a number has that number
+-- If `f` is the representation of `n`, then `f` denotes `n`.
 pub form_has : (n : Decimal) (f : FormOf) → IsPlain n → f ≡ form_of n → form_number f ≡ n
 form_has n f plain e = ap form_number e ∙ number_of_form n plain
 

@@ -1,4 +1,4 @@
--- Integers of 64 bits, and their forms.
+-- Integers of 64 bits are stored without a list of digits.
 use Rattle.ijson_number.proofs.Common.{◌≡◌, ◌≢◌, ℕ, ◌*◌, ◌%◌, ◌^◌, ◌<◌, Bool, true, false, [], refl, ap, sym, subst, ◌∙◌, inl, inr, arith, ℤ, pos}
 use Rattle.ijson_number.proofs.Common.{nat_abs, int_lt, ◌+ℤ◌, FitsSigned, w64, number_from_digits, digits_of, ints, number_digits_of, Decimal, FormOf}
 use Rattle.ijson_number.proofs.Common.{packed, signed_word, unsigned_word, fits_packed, fits_i64, fits_u64, digits_form, integer_form, form_of}
@@ -12,7 +12,7 @@ use Rattle.ijson_number.proofs.BooleanTests.{abs_zero, not_zero}
 use Rattle.ijson_number.proofs.storing.WholeValues.{tens_few, whole_stripped, value_is, whole_num}
 use Rattle.ijson_number.proofs.writing.Writing.{below_zero}
 
--- a mantissa of zero
+-- Stripping a mantissa of 0 yields zero, without a sign and with the exponent 0.
 pub zero_is : (negative : Bool) (e : ℤ) (point : Bool) → stripped_number (signed negative 0) e point ≡ stored_number false [] (pos 0) point
 zero_is negative e point = rw (signed_nought negative, tens_out_zero 20) refl
 
@@ -20,14 +20,16 @@ module _ (magnitude s t : ℕ) (some : magnitude ≢ 0) (small : magnitude < 10 
   abbrev out : ℕ × ℕ
   out = tens_out 20 magnitude
 
-  -- stripping trailing zeros has one result
+  -- If ten does not divide `s` and `magnitude` is `s * 10 ^ t`, then `tens_out` returns `s` and
+  -- `t`.
   same_tens : (out.0 ≡ s) × (out.1 ≡ t)
   same_tens =
       let is : IsTensOut magnitude out = tens_out_is 20 magnitude some small in
       let r = int_tens (pos out.0) (pos s) out.1 t (λ _. is.1) (λ _. last) (ap pos (sym is.0 ∙ tens)) in
       (let e : pos out.0 ≡ pos s = r.0 in cc, r.1 (λ z. is.1 (let e : out.0 ≡ 0 = cc in rw e refl)))
 
-  -- a mantissa that is not zero
+  -- Stripping a nonzero mantissa yields its canonical digits, and adds the number of stripped zeros
+  -- to the exponent.
   pub some_is : (negative : Bool) (e : ℤ) (point : Bool)
       → stripped_number (signed negative magnitude) e point ≡ stored_number negative (digits_of 10 s) (e +ℤ pos t) point
   some_is negative e point =
@@ -37,7 +39,7 @@ module _ (magnitude s t : ℕ) (some : magnitude ≢ 0) (small : magnitude < 10 
       let number : number_from_digits 10 (digits_of 10 s) ≡ s = number_digits_of 10 s (omega arith) in
       rw (abs, sign, not_zero magnitude some, same_tens.0, same_tens.1, number) refl
 
--- the digits of a number that ten does not divide
+-- The digits of a number that ten does not divide are canonical.
 pub some_stored : (s : ℕ) → s % 10 ≢ 0 → (negative : Bool) → IsStored negative (digits_of 10 s)
 some_stored s last negative = record {
   stripped = whole_stripped s last;
@@ -45,7 +47,7 @@ some_stored s last negative = record {
       (last (let is : 0 ≡ s = ap (number_from_digits 10) (sym none) ∙ number_digits_of 10 s (omega arith) in rw (← is) refl));
 }
 
--- a number whose mantissa is not zero, and the trailing zeros stripped from it
+-- In this module, `m` is a nonzero mantissa below `2 ^ 64`, from which trailing zeros are stripped.
 module _ (m : ℤ) (word : nat_abs m < 2 ^ 64) (some : nat_abs m ≢ 0) where
   pub tens_are : IsTensOut (nat_abs m) (tens_out 20 (nat_abs m))
   tens_are = tens_out_is 20 (nat_abs m) some (omega arith)
@@ -82,7 +84,7 @@ module _ (z : ℤ) (word : nat_abs z < 2 ^ 64) where
     | inr n ↦ some_num (λ e. n (abs_zero z e))
   ]
 
-  -- an integer of 64 bits is not stored by its digits
+  -- An integer of 64 bits is not stored as a list of digits.
   same_word : (n : Decimal) (a b c : Bool) → (b ≡ false → c ≡ true) → (let f : FormOf = elim a [
     | true ↦ packed z (pos 0) false
     | false ↦
@@ -106,14 +108,14 @@ module _ (z : ℤ) (word : nat_abs z < 2 ^ 64) where
     word_integer = subst (λ n. IsInteger n z) (sym (form_has number f is_num.plain form_is))
         (record { value = integer_value z; no_point = refl })
 
--- a signed word
+-- An integer that fits an `i64` has an absolute value below `2 ^ 64`.
 pub signed_small : (z : ℤ) → FitsSigned w64 z → nat_abs z < 2 ^ 64
 signed_small z h = omega (arith, ints)
 
 pub signed_fits : (z : ℤ) → FitsSigned w64 z → fits_i64 z ≡ true
 signed_fits z h = grind (arith, ints)
 
--- an unsigned word
+-- A natural number below `2 ^ 64` fits a `u64`.
 pub unsigned_fits : (n : ℕ) → n < 2 ^ 64 → fits_u64 (pos n) ≡ true
 unsigned_fits n h = grind (arith, ints)
 

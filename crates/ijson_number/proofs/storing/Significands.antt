@@ -1,4 +1,4 @@
--- Numbers by a magnitude of one word and an exponent, and their forms.
+-- Significands: the numbers that they denote, and the representations of these numbers.
 use Rattle.ijson_number.proofs.Common.{◌≡◌, ◌≢◌, ◌⊎◌, ℕ, zero, suc, ◌+◌, ◌-◌, ◌*◌, ◌%◌, ◌^◌, ◌<◌, ◌≤◌, Bool, true, false, List, [], ◌++◌, length}
 use Rattle.ijson_number.proofs.Common.{refl, ap, sym, subst, ◌∙◌, inl, inr, arith, pow-add, ℤ, pos, negsuc, neg_ℤ, nat_abs, int_le, ◌≤ℤ◌, ◌<ℤ◌, ◌+ℤ◌}
 use Rattle.ijson_number.proofs.Common.{◌-ℤ◌, ◌*ℤ◌, ◌&&◌, FitsSigned, IfOk, Result, w64, mul-le-mul_left, mul_assoc, and_from, cases_eq, ints}
@@ -17,11 +17,12 @@ use Rattle.ijson_number.proofs.storing.FormNumbers.{IsTensOut, tens_out_is, stri
 use Rattle.ijson_number.proofs.storing.IntegerWords.{some_is, zero_is}
 use Rattle.ijson_number.proofs.storing.WholeValues.{abs_times, tens_few}
 
--- appending zeros does not decrease a number
+-- Appending zeros to a number does not decrease it.
 pub no_more : (n k : ℕ) → n ≤ n * 10 ^ k
 no_more n k = let m : n * 1 ≤ n * 10 ^ k = mul-le-mul_left n (ten_pos k) in omega arith
 
--- a number that is not zero, with all trailing zeros of its magnitude stripped
+-- If `magnitude` is nonzero and equals `s * 10 ^ t`, and ten does not divide `s`, stripping zeros
+-- yields the mantissa `s` and the exponent `e + t`.
 pub canonical_of : (negative : Bool) (magnitude s t : ℕ) (e : ℤ) (point : Bool) → magnitude ≢ 0 → magnitude < 2 ^ 64 → magnitude ≡ s * 10 ^ t
     → s % 10 ≢ 0 → let n : Decimal = record { mantissa = signed negative s; exponent = e +ℤ pos t; point = point } in
     stripped_number (signed negative magnitude) e point ≡ n
@@ -30,19 +31,20 @@ canonical_of negative magnitude s t e point some word tens last =
     ∙ ap (λ v. let n : Decimal = record { mantissa = signed negative v; exponent = e +ℤ pos t; point = point } in n)
     (number_digits_of 10 s (omega arith))
 
--- zero has no sign and no exponent
+-- A significand with the magnitude 0 denotes zero, without a sign and with the exponent 0.
 pub zero_number : (negative : Bool) (magnitude : ℕ) (e : ℤ) (point : Bool) → magnitude ≡ 0
     → stripped_number (signed negative magnitude) e point ≡ stored_number false [] (pos 0) point
 zero_number negative magnitude e point none = rw none (zero_is negative e point)
 
--- once all trailing zeros are stripped it is canonical
+-- Stripping all trailing zeros of a nonzero significand yields the canonical number that it
+-- denotes.
 pub canonical_is : (s t : Significand) → s.magnitude < 2 ^ 64 → s.magnitude ≢ 0 → HasFewerTens s t → t.magnitude % 10 ≢ 0
     → t.negative ≡ s.negative → t.point ≡ s.point → canonical_number t ≡ significand_number s
 canonical_is s t word some h last negative point =
     rw (h.exponent, negative, point)
     (sym (canonical_of s.negative s.magnitude t.magnitude h.count s.exponent s.point some word h.magnitude last))
 
--- stripping some trailing zeros keeps the number
+-- Stripping some trailing zeros of a significand keeps the number that it denotes.
 pub fewer_tens : (s t : Significand) → s.magnitude < 2 ^ 64 → HasFewerTens s t → t.negative ≡ s.negative → t.point ≡ s.point
     → significand_number t ≡ significand_number s
 fewer_tens s t word h negative point = elim (cases_eq t.magnitude 0) [
@@ -64,13 +66,14 @@ fewer_tens s t word h negative point = elim (cases_eq t.magnitude 0) [
       )
 ]
 
--- a magnitude below 2 ^ 55 fits a packed word
+-- A magnitude below `2 ^ 55` fits a packed number.
 packed_fits : (negative : Bool) (m : ℕ) → m < 2 ^ 55 → fits_packed (signed negative m) ≡ true
 packed_fits true zero h = refl
 packed_fits true (suc m) h = grind (arith, ints)
 packed_fits false m h = grind (arith, ints)
 
--- a number with a decimal point and no fraction is packed with the exponent 0 if its magnitude fits
+-- A number with a decimal point, the exponent 0 and a magnitude below `2 ^ 55` is packed with the
+-- exponent 0.
 whole_common : (negative : Bool) (m : ℕ) → m < 2 ^ 55
     → form_of (stripped_number (signed negative m) (pos 0) true) ≡ packed (signed negative m) (pos 0) true
 whole_common negative m small = elim (cases_eq m 0) [
@@ -89,7 +92,8 @@ whole_common negative m small = elim (cases_eq m 0) [
       )
 ]
 
--- the form of a number with a fraction
+-- A number with a fraction is packed if it has at most seven fraction digits and its mantissa fits.
+-- Otherwise it is stored as a list of digits.
 pub fraction_form : (n : Decimal) → n.point ≡ true → n.exponent <ℤ pos 0
     → form_of n ≡ (elim (int_le (negsuc 6) n.exponent && fits_packed n.mantissa) [
       | true ↦ packed n.mantissa n.exponent true
@@ -97,7 +101,7 @@ pub fraction_form : (n : Decimal) → n.point ≡ true → n.exponent <ℤ pos 0
     ])
 fraction_form n point below = taken n.point _ _ point ∙ left (int_le (pos 0) n.exponent) _ _ (not_le (pos 0) n.exponent below)
 
--- a number with eight or more fraction digits is stored by its digits
+-- A number with eight or more fraction digits is stored as a list of digits.
 pub deep_form : (s : Significand) → IsSmall s → s.exponent <ℤ negsuc 6 → s.magnitude % 10 ≢ 0
     → form_of (significand_number s) ≡ digits_form (canonical_number s)
 deep_form s small low last =
@@ -109,7 +113,8 @@ deep_form s small low last =
     ∙ left (int_le (negsuc 6) s.exponent && fits_packed (signed s.negative s.magnitude)) _ _
     (ap (λ b. b && fits_packed (signed s.negative s.magnitude)) (not_le (negsuc 6) s.exponent low))
 
--- a common number with a decimal point is packed unchanged
+-- A number with a decimal point, at most seven fraction digits and a magnitude below `2 ^ 55` is
+-- packed with its own mantissa and exponent.
 common_form : (negative : Bool) (m : ℕ) (e : ℤ) → m < 2 ^ 55 → negsuc 6 ≤ℤ e → e ≤ℤ pos 0 → (e <ℤ pos 0 → m % 10 ≢ 0)
     → form_of (stripped_number (signed negative m) e true) ≡ packed (signed negative m) e true
 common_form negative m (pos (suc k)) small low high last = absurd (omega (arith, ints))
@@ -129,7 +134,8 @@ pub common_packed : (s : Significand) → s.point ≡ true → s.magnitude < 2 ^
     → form_of (significand_number s) ≡ packed (signed s.negative s.magnitude) s.exponent true
 common_packed s point small low high last = rw point (common_form s.negative s.magnitude s.exponent small low high last)
 
--- a number of one word and a small exponent is within the limit
+-- A number whose mantissa is below `2 ^ 64` and whose exponent is at most 20000 in absolute value
+-- is within the limits.
 few_num : (m e : ℤ) (n : Decimal) → nat_abs m < 2 ^ 64 → neg_ℤ (pos 20000) ≤ℤ e → e ≤ℤ pos 20000 → Strips m e n → IsNum n
 few_num m e n word low high s = record {
   plain = s.plain;
@@ -148,7 +154,7 @@ few_num m e n word low high s = record {
   ];
 }
 
--- the value of an integer of one word
+-- The value of an integer, as its mantissa times the power of ten of its exponent.
 abbrev value_of : Decimal → ℤ
 value_of n = n.mantissa *ℤ pos (10 ^ nat_abs n.exponent)
 
@@ -164,7 +170,7 @@ integer_value negative m word = elim (cases_eq m 0) [
       )
 ]
 
--- the form of an integer of one word
+-- A significand without a decimal point and with the exponent 0 is represented as an integer.
 pub integer_form_is : (s : Significand) → s.magnitude < 2 ^ 64 → s.point ≡ false → s.exponent ≡ pos 0
     → form_of (significand_number s) ≡ integer_form (significand_number s) (signed s.negative s.magnitude)
 integer_form_is s word point integer =
@@ -172,7 +178,8 @@ integer_form_is s word point integer =
     (integer_value s.negative s.magnitude word) in
     left s.point _ _ point ∙ ap (integer_form (significand_number s)) value
 
--- few digits and a small exponent spell the number of their value and their scale
+-- If the digits of a spelled number have a value below `2 ^ 64`, and its exponent is at most 20000
+-- in absolute value, the spelled number has this value and this exponent.
 pub parts_number : (t : List ℕ) (p : Parts) (magnitude : ℕ) (e : ℤ) → IsSpelled t p → e ≡ p.exponent -ℤ pos (length p.fraction)
     → neg_ℤ (pos 20000) ≤ℤ e → e ≤ℤ pos 20000 → magnitude ≡ value (p.whole ++ p.fraction) → magnitude < 2 ^ 64
     → let n : Decimal = stripped_number (signed p.negative magnitude) e p.point in
@@ -185,14 +192,15 @@ parts_number t p magnitude e spelled exponent low high is word =
     let same : stripped_number m e p.point ≡ d.0 = ap (stripped_number m e) (sym d.1.1) ∙ stripped_is m e d.0 (omega arith) s in
     subst (λ (n : Decimal). Spells t n × IsNum n) (sym same) ((p, spelled, d.1), few_num m e d.0 small low high s)
 
--- the form of a canonical integer, of which `m` is the magnitude with its zeros
+-- A canonical number without a decimal point is represented as the integer `m`, its magnitude
+-- followed by its zeros.
 pub canonical_integer_form : (s : Significand) (m : ℕ) → s.point ≡ false → m ≡ s.magnitude * 10 ^ nat_abs s.exponent
     → form_of (canonical_number s) ≡ integer_form (canonical_number s) (signed s.negative m)
 canonical_integer_form s m point is =
     left s.point _ _ point
     ∙ ap (integer_form (canonical_number s)) (sym (ap (signed s.negative) is ∙ signed_mul s.negative s.magnitude (10 ^ nat_abs s.exponent)))
 
--- stripping zeros before the point leaves a small number small
+-- Stripping trailing zeros while the exponent is below 0 keeps `IsSmall`.
 pub small_less : (s t : Significand) → IsSmall s → HasFewerTens s t → (t.exponent ≤ℤ pos 0) ⊎ (t.exponent ≡ s.exponent)
     → t.negative ≡ s.negative → t.point ≡ s.point → t.point ≡ true → IsSmall t
 small_less s t small h most negative point pointed =
@@ -210,10 +218,11 @@ small_less s t small h most negative point pointed =
       num = subst IsNum (sym (fewer_tens s t (omega (arith, m)) h negative point)) small.num;
     }
 
--- a magnitude of 63 bits fits a signed word with its sign
+-- A magnitude below `2 ^ 63` with a sign fits an `i64`.
 pub signed_word : (negative : Bool) (m : ℕ) → m < 2 ^ 63 → FitsSigned w64 (signed negative m)
 signed_word negative m h = grind (arith, ints)
 
--- a representation of one form is one of any equal form
+-- If a result is stored with the representation `f`, and `g` equals `f`, the result is stored with
+-- the representation `g`.
 pub encoded : {E : Type 0} (r : Result Stored E) (f g : FormOf) → g ≡ f → IfOk r (λ s. stored_form s ≡ f) → IfOk r (λ s. stored_form s ≡ g)
 encoded r f g e h = subst (λ x. IfOk r (λ s. stored_form s ≡ x)) (sym e) h

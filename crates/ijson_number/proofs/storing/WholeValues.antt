@@ -1,4 +1,4 @@
--- Numbers that are whole, and their digits.
+-- Numbers with an integer value: their digits, their bounds and their comparison.
 use Rattle.ijson_number.proofs.Common.{◌≡◌, ◌≢◌, ◌⊎◌, ℕ, suc, ◌+◌, ◌-◌, ◌*◌, ◌/◌, ◌%◌, ◌^◌, ◌<◌, ◌≤◌, Bool, false, List, [], ◌∷◌, ◌++◌, length}
 use Rattle.ijson_number.proofs.Common.{get_or, take, Option, Some, None, refl, ap, sym, ◌∙◌, inl, inr, arith, pow-add, ℤ, pos, negsuc, nat_abs}
 use Rattle.ijson_number.proofs.Common.{IfNone, ◌+ℤ◌, ◌-ℤ◌, ◌*ℤ◌, ◌≤ℤ◌, ◌<ℤ◌, digits_of, number_from_digits, alike_right, int_cmp}
@@ -15,7 +15,7 @@ use Rattle.ijson_number.proofs.parsing.Denotes.{stripped_plain}
 last_pushed : (ds : List ℕ) (d : ℕ) → get_or (ds ++ d ∷ []) (length (ds ++ d ∷ []) - 1) 0 ≡ d
 last_pushed ds d = let at : length (ds ++ d ∷ []) - 1 ≡ length ds = simp length-append (omega arith) in rw at (get_or-append_seam ds d [] 0)
 
--- the digits of a number that ten does not divide are canonical
+-- The digits of a number that ten does not divide are canonical.
 pub whole_stripped : (n : ℕ) → n % 10 ≢ 0 → IsStripped (digits_of 10 n)
 whole_stripped n h =
     let some : 0 < n = omega arith in
@@ -43,14 +43,14 @@ below_cmp_is n z h =
     let e : n.exponent -ℤ n.exponent ≡ pos 0 = omega (arith, ints) in
     rescale n (integer z) n.exponent (omega (arith, ints)) h ∙ rw (e, times_one n.mantissa) refl
 
--- a multiple of a positive power of ten ends in zero
+-- Ten divides every multiple of a positive power of ten.
 pub ends_in_zero : (n k : ℕ) → n * 10 ^ suc k % 10 ≡ 0
 ends_in_zero n k = let e : n * (10 * 10 ^ k) ≡ n * 10 ^ k * 10 = omega arith in rw (pow-succ' 10 k, e) (mul-mod_left (n * 10 ^ k) 10)
 
 ten_divides : (m z : ℤ) (k : ℕ) → m ≡ z *ℤ pos (10 ^ suc k) → nat_abs m % 10 ≡ 0
 ten_divides m z k e = rw (ap nat_abs e ∙ abs_times z (10 ^ suc k)) (ends_in_zero (nat_abs z) k)
 
--- a number with a fraction has no whole value
+-- A canonical number with a negative exponent does not have an integer value.
 pub fraction_cmp : (n : Decimal) (z : ℤ) → IsPlain n → n.exponent <ℤ pos 0 → HasValue n z → ⊥
 fraction_cmp n z p h v =
     let k = nat_abs (pos 0 -ℤ n.exponent) in
@@ -64,7 +64,8 @@ pub sign_cases : (z : ℤ) → (pos 0 ≤ℤ z) ⊎ (z <ℤ pos 0)
 sign_cases (pos n) = inl (omega (arith, ints))
 sign_cases (negsuc n) = inr (omega (arith, ints))
 
--- a plain number with the value z is whole, and z is its mantissa with its zeros
+-- If a canonical number has the integer value `z`, its exponent is not negative, and `z` is its
+-- mantissa times the power of ten of its exponent.
 pub value_is : (n : Decimal) (z : ℤ) → IsPlain n → HasValue n z → (pos 0 ≤ℤ n.exponent) × (z ≡ n.mantissa *ℤ pos (10 ^ nat_abs n.exponent))
 value_is n z p v =
     elim (sign_cases n.exponent) [
@@ -72,15 +73,16 @@ value_is n z p v =
       | inr h ↦ absurd (fraction_cmp n z p h v)
     ]
 
--- a plain number has one value
+-- A canonical number has at most one integer value.
 pub value_one : (n : Decimal) (y z : ℤ) → IsPlain n → HasValue n y → HasValue n z → y ≡ z
 value_one n y z p v w = (value_is n y p v).1 ∙ sym (value_is n z p w).1
 
--- a number is compared with an integer as with any number of its value
+-- If `n` has the integer value `z`, comparing a number with `n` has the same result as comparing it
+-- with `z`.
 pub integer_cmp : (a n : Decimal) (z : ℤ) → IsInteger n z → number_cmp a n ≡ number_cmp a (integer z)
 integer_cmp a n z is = alike_right number_cmp_total n (integer z) a (tests_equal _ is.value)
 
--- the value of at most twenty digits, without the last of them
+-- A proper prefix of a list of at most 20 digits has a value below `10 ^ 19`.
 pub number_so_far : (ds : List ℕ) (i : ℕ) → All (λ d. d < 10) ds → i < length ds → length ds ≤ 20 → number_from_digits 10 (take i ds) < 10 ^ 19
 number_so_far ds i h m l =
     let b = number_lt 10 (take i ds) (below_take i ds (recursion_from_All (λ d. d < 10) ds h)) in
@@ -88,14 +90,14 @@ number_so_far ds i h m l =
     let p = power_le (length (take i ds)) 19 t in
     omega arith
 
--- at most twenty digits and zeros have a value below 10^20
+-- Digits and trailing zeros, at most 20 in total, have a value below `10 ^ 20`.
 pub scaled_small : (ds : List ℕ) (zeros : ℕ) → All (λ d. d < 10) ds → length ds + zeros ≤ 20 → number_from_digits 10 ds * 10 ^ zeros < 10 ^ 20
 scaled_small ds zeros h l =
     let b = scaled_below ds zeros (recursion_from_All (λ d. d < 10) ds h) in
     let p = power_le (length ds + zeros) 20 l in
     omega arith
 
--- a number of one word has fewer than twenty trailing zeros
+-- A nonzero number below `2 ^ 64` has fewer than 20 trailing zeros.
 pub tens_few : (number rest tens : ℕ) → number < 2 ^ 64 → rest ≢ 0 → number ≡ rest * 10 ^ tens → tens < 20
 tens_few number rest tens h n e =
     elim (cases_lt tens 20) [
@@ -104,7 +106,7 @@ tens_few number rest tens h n e =
           let m : 1 * 10 ^ tens ≤ rest * 10 ^ tens = mul-le-mul_right (10 ^ tens) (omega (arith, n)) in absurd (omega arith))
     ]
 
--- stripping a zero
+-- If ten divides `rest`, one more trailing zero of `number` can be stripped.
 pub ten_out : (number rest tens : ℕ) → rest % 10 ≡ 0 → number ≡ rest * 10 ^ tens → number ≡ rest / 10 * 10 ^ (tens + 1)
 ten_out number rest tens h e =
     let whole : rest ≡ rest / 10 * 10 = omega arith in
@@ -116,7 +118,7 @@ digits_some : (ds : List ℕ) (v : ℕ) → number_from_digits 10 ds ≡ v → v
 digits_some [] v h m = absurd (m (rw (← h) refl))
 digits_some (d ∷ ds) v h m = omega arith
 
--- the digits of an integer and its zeros are a Num
+-- Canonical digits with fewer than 20 trailing zeros are a `Num` without a decimal point.
 pub whole_num : (negative : Bool) (s t : ℕ) → t < 20 → s % 10 ≢ 0 → IsNum (stored_number negative (digits_of 10 s) (pos 0 +ℤ pos t) false)
 whole_num negative s t few n =
     let ds = digits_of 10 s in
@@ -125,7 +127,7 @@ whole_num negative s t few n =
       in_range = within_in_range (stored_number negative ds (pos 0 +ℤ pos t) false) (omega (arith, ints), omega (arith, ints));
     }
 
--- canonical digits and zeros that are more than twenty together have a large value
+-- Canonical digits followed by zeros, more than 20 in total, have a value of at least `10 ^ 20`.
 pub large_mantissa : (negative : Bool) (ds : List ℕ) (zeros : ℕ) → IsStripped ds → 0 < length ds → 20 < zeros + length ds
     → 10 ^ 20 ≤ nat_abs (signed negative (number_from_digits 10 ds) *ℤ pos (10 ^ zeros))
 large_mantissa negative ds zeros stripped some h =
@@ -138,7 +140,8 @@ large_mantissa negative ds zeros stripped some h =
     let twenty : 10 ^ 20 ≤ 10 ^ (length ds - 1 + zeros) = power_le 20 (length ds - 1 + zeros) (omega arith) in
     rw magnitude (omega arith)
 
--- if the mantissa with its zeros is large, so is the value
+-- If the mantissa times the power of ten of the exponent is at least `10 ^ 20`, the number does not
+-- have an integer value below `10 ^ 20`.
 pub large_value : (n : Decimal) (o : Option ℤ) → IsPlain n → IfNone o (10 ^ 20 ≤ nat_abs (n.mantissa *ℤ pos (10 ^ nat_abs n.exponent)))
     → IfNone o ((z : ℤ) → nat_abs z < 10 ^ 20 → HasValue n z → ⊥)
 large_value n (Some x) p h = tt

@@ -1,4 +1,4 @@
--- Canonical digits are those of their value, and are written and read unchanged.
+-- Canonical digits are the digits of their value, and are unchanged after writing and reading.
 use Rattle.ijson_number.proofs.Common.{◌≡◌, ◌≢◌, ℕ, zero, suc, ◌+◌, ◌*◌, ◌/◌, ◌%◌, ◌<◌, Bool, List, [], ◌∷◌, ◌++◌, length, get_or, refl, ap, sym, ◌∙◌}
 use Rattle.ijson_number.proofs.Common.{arith, append_assoc, nat_abs, nat_eq, true, false, cond, ℤ, append-nil, AllByRecursion, recursion_from_All}
 use Rattle.ijson_number.proofs.Common.{digits_of_step, number_from_digits, number_from_digits_after, digits_of, digits_with_fuel, signed}
@@ -30,7 +30,7 @@ digits_back (d ∷ ds) h f =
 pub stripped_back : (ds : List ℕ) → IsStripped ds → digits_of 10 (number_from_digits 10 ds) ≡ ds
 stripped_back ds s = digits_back ds (recursion_from_All (λ d. d < 10) ds s.below_ten) s.first
 
--- the digits of the definitions are those of std
+-- A step of `digits_within` equals a step of the standard library's function.
 same_turn : (b : Bool) (xs ys : List ℕ) → xs ≡ ys → (let r : List ℕ = elim b [ true ↦ [] | false ↦ xs ] in r) ≡ cond b [] ys
 same_turn true xs ys e = refl
 same_turn false xs ys e = e
@@ -41,7 +41,7 @@ digits_are (suc turns) n =
     same_turn (nat_eq n 0) (digits_within turns (n / 10) ++ (n % 10 ∷ [])) (digits_with_fuel 10 turns (n / 10) ++ (n % 10 ∷ []))
     (ap (λ x. x ++ (n % 10 ∷ [])) (digits_are turns (n / 10)))
 
--- the digits of the stored number are the stored digits
+-- The canonical digits of a stored number are its stored digits.
 pub stored_digits_are : (negative : Bool) (ds : List ℕ) (e : ℤ) (point : Bool) → IsStripped ds
     → stripped_digits (stored_number negative ds e point) ≡ ds
 stored_digits_are negative ds e point s =
@@ -51,7 +51,7 @@ stored_digits_are negative ds e point s =
 abbrev pub Below : List ℕ → Type 0
 Below ds = AllByRecursion (λ d. d < 10) ds
 
--- digits that are written are read unchanged
+-- Writing digits as ASCII and reading them returns the same digits.
 pub read_back : (ds : List ℕ) → digits_from_text (digits_text ds) ≡ ds
 read_back [] = refl
 read_back (d ∷ ds) = let h : 48 + d - 48 ≡ d = omega arith in rw (h, read_back ds) refl
@@ -70,7 +70,7 @@ pub zeros_digits : (k : ℕ) → AllDigits (zeros_text k)
 zeros_digits zero = tt
 zeros_digits (suc k) = ((omega arith, omega arith), zeros_digits k)
 
--- digits without a leading zero, with more digits after them, are a whole part
+-- Digits without a leading zero, followed by any number of digits, are a whole part.
 pub whole_from : (ds xs : List ℕ) → Below ds → 0 < get_or ds 0 0 → AllDigits xs → IsWhole (digits_text ds ++ xs)
 whole_from [] xs h f x = absurd (omega arith)
 whole_from (d ∷ ds) xs h f x = inr (omega arith, omega arith, AllDigits-append (digits_text ds) xs (text_digits ds h.1) x)

@@ -1,4 +1,4 @@
--- The last digits of a number, with leading zeros.
+-- `last_digits`: the last digits of a number, with leading zeros.
 use Rattle.ijson_number.proofs.Common.{◌≡◌, ℕ, zero, suc, ◌+◌, ◌-◌, ◌*◌, ◌/◌, ◌%◌, ◌^◌, ◌<◌, ◌≤◌, List, [], ◌∷◌, ◌++◌, length, refl, ap, sym, ◌∙◌}
 use Rattle.ijson_number.proofs.Common.{arith, append_assoc, inl, inr, pow-succ', mul-le-mul_right, mul_comm, cases_lt, decimal_digit}
 use Rattle.ijson_number.proofs.Common.{decimal_step_wide, append-nil, length_push, replicate_more, decimal, zeros_text, ten_pos, min, get_or}
@@ -12,7 +12,8 @@ pub some_places : (whole k : ℕ) → 0 < whole → 0 < whole * 10 ^ k
 some_places zero k h = absurd (omega arith)
 some_places (suc w) k h = let t = ten_pos k in grind (arith, t)
 
--- a whole part and the digits after it
+-- The decimal text of `whole * 10 ^ scale + fraction` is the text of `whole` followed by the last
+-- `scale` digits of `fraction`.
 pub joined : (scale whole fraction : ℕ) → 0 < whole → fraction < 10 ^ scale → whole * 10 ^ scale + fraction < 10 ^ 64
     → decimal (whole * 10 ^ scale + fraction) ≡ decimal whole ++ last_digits scale fraction
 unfolding last_digits
@@ -36,7 +37,8 @@ unfolding last_digits
 last_zeros zero = refl
 last_zeros (suc k) = let next : k + 1 ≡ suc k = omega arith in rw (last_zeros k, replicate_more {X = ℕ} k 48, next) refl
 
--- digits after the point, with leading zeros
+-- If `n` is below `10 ^ scale`, its last `scale` digits are leading zeros followed by its decimal
+-- text.
 pub padded : (scale n : ℕ) → 0 < scale + n → n < 10 ^ scale → n < 10 ^ 64
     → zeros_text (scale - length (decimal n)) ++ decimal n ≡ last_digits scale n
 unfolding last_digits
@@ -63,7 +65,7 @@ padded (suc k) n h l s =
 pub whole_small : (whole scale fraction : ℕ) → 0 < scale → whole * scale + fraction < 2 ^ 64 → whole < 2 ^ 64
 whole_small w p f h l = let m : 1 * w ≤ p * w = mul-le-mul_right w h in let e : p * w ≡ w * p = mul_comm p w in omega arith
 
--- leading digits do not change the last ones
+-- Adding a multiple of `10 ^ scale` to a number keeps its last `scale` digits.
 last_behind : (scale more n : ℕ) → last_digits scale (more * 10 ^ scale + n) ≡ last_digits scale n
 unfolding last_digits
 last_behind zero more n = refl
@@ -79,7 +81,8 @@ last_rest p n =
     let parts : n / 10 ^ p * 10 ^ p + n % 10 ^ p ≡ n = omega arith in
     rw parts at (sym (last_behind p (n / 10 ^ p) (n % 10 ^ p)))
 
--- the last digits are those before the last `scale`, and these
+-- The last `count + scale` digits of `n` are the last `count` digits of `n / 10 ^ scale` followed
+-- by the last `scale` digits of `n`.
 last_split : (count scale n : ℕ) → last_digits (count + scale) n ≡ last_digits count (n / 10 ^ scale) ++ last_digits scale n
 unfolding last_digits
 last_split count zero n =
@@ -92,15 +95,17 @@ last_split count (suc p) n =
     rw (next, last_split count p (n / 10), over)
     (append_assoc (last_digits count (n / 10 ^ suc p)) (last_digits p (n / 10)) ((48 + n % 10) ∷ []))
 
--- the powers of ten of both parts of a list of digits
+-- If `scale` is at most `row`, then `10 ^ (row - scale) * 10 ^ scale` is `10 ^ row`.
 row_powers : (row scale : ℕ) → scale ≤ row → 10 ^ (row - scale) * 10 ^ scale ≡ 10 ^ row
 row_powers row scale few = let both : row - scale + scale ≡ row = omega arith in rw both at (sym (pow-add 10 (row - scale) scale))
 
--- a list of digits consists of those before the last `scale`, and these
+-- The last `row` digits of `n` are the last `row - scale` digits of `n / 10 ^ scale` followed by
+-- the last `scale` digits of `n`.
 row_split : (row scale n : ℕ) → scale ≤ row → last_digits row n ≡ last_digits (row - scale) (n / 10 ^ scale) ++ last_digits scale n
 row_split row scale n few = let both : row - scale + scale ≡ row = omega arith in rw both at (last_split (row - scale) scale n)
 
--- at the end of the leading zeros, the number begins
+-- In this module, `lanes` is `lead` zeros followed by `shown` and `behind`, and `zeros` is the
+-- number of leading zeros that was counted.
 module _ (lanes : List ℕ) (zeros : ℕ) (shown behind : List ℕ) (lead : ℕ) (is : lanes ≡ replicate lead 48 ++ (shown ++ behind))
     (counted : IsZerosInFront lanes zeros) where
   zero_at : (k : ℕ) → k < lead → get_or lanes k 0 ≡ 48
@@ -127,7 +132,8 @@ module _ (lanes : List ℕ) (zeros : ℕ) (shown behind : List ℕ) (lead : ℕ)
   shown_at = rw (is, drop_at (replicate lead 48) (shown ++ behind) lead (length-replicate {A = ℕ} lead 48))
       (take_at shown behind (length shown) refl)
 
--- a number of 16 digits without its last `scale`, after its leading zeros
+-- In this module, `lanes` are the 16 digits of `n`. The last `scale` digits are the fraction, and
+-- `zeros` is the number of leading zeros.
 module _ (n scale : ℕ) (small : n < 10 ^ 16) (few : scale < 16) (lanes : List ℕ) (is : lanes ≡ last_digits 16 n) (zeros : ℕ)
     (counted : IsZerosInFront lanes zeros) where
   abbrev whole : ℕ
@@ -171,7 +177,8 @@ module _ (n scale : ℕ) (small : n < 10 ^ 16) (few : scale < 16) (lanes : List 
       let count : end - lead ≡ length shown = omega arith in
       rw (start_is start s, count) (shown_at lanes zeros shown (last_digits scale n) lead row_is counted)
 
--- a number of at most 15 digits, after its leading zeros among 16 digits
+-- In this module, `lanes` are the 16 digits of a number `n` below `10 ^ 15`, and `zeros` is the
+-- number of leading zeros.
 module _ (n : ℕ) (small : n < 10 ^ 15) (lanes : List ℕ) (is : lanes ≡ last_digits 16 n) (zeros : ℕ)
     (counted : IsZerosInFront lanes zeros) where
   zero_first : get_or lanes 0 0 ≡ 48
@@ -192,18 +199,19 @@ module _ (n : ℕ) (small : n < 10 ^ 15) (lanes : List ℕ) (is : lanes ≡ last
       sym (take_all (16 - zeros) (drop zeros lanes) (omega (arith, length-drop zeros lanes)))
       ∙ front_is n 0 (omega arith) (omega arith) lanes is zeros counted zeros (omega arith) ∙ ap decimal same
 
--- the last 15 of 16 digits
+-- Dropping the first of the last 16 digits of a number yields its last 15 digits.
 pub but_first : (n : ℕ) → drop 1 (last_digits 16 n) ≡ last_digits 15 n
 but_first n = ap (drop 1) (row_split 16 15 n (omega arith))
     ∙ drop_at (last_digits 1 (n / 10 ^ 15)) (last_digits 15 n) 1 (last_count 1 (n / 10 ^ 15))
 
--- the digits after the point
+-- The last `scale` of 16 digits are the last `scale` digits of the number modulo `10 ^ scale`.
 pub behind_point : (n scale : ℕ) → scale < 16 → drop (16 - scale) (last_digits 16 n) ≡ last_digits scale (n % 10 ^ scale)
 behind_point n scale few = ap (drop (16 - scale)) (row_split 16 scale n (omega arith))
     ∙ drop_at (last_digits (16 - scale) (n / 10 ^ scale)) (last_digits scale n) (16 - scale) (last_count (16 - scale) (n / 10 ^ scale))
     ∙ sym (last_rest scale n)
 
--- a number of more than 15 digits: the leading ones, and the last 15
+-- In this module, `magnitude` has more than 15 digits, and `last` is the number of its last 15
+-- digits.
 module _ (magnitude scale : ℕ) (few : scale < 16) (word : magnitude < 2 ^ 64) (wide : 10 ^ 15 ≤ magnitude) where
   abbrev before : ℕ
   before = 15 - scale
@@ -244,7 +252,7 @@ one_digit : (d : ℕ) → d < 10 → last_digits 1 d ≡ decimal d
 unfolding last_digits
 one_digit d few = let same : d % 10 ≡ d = omega arith in rw (same, decimal_digit d few) refl
 
--- a number of 16 digits has no leading zeros among them
+-- The last 16 digits of a number of 16 digits are its decimal text.
 pub full_row : (n : ℕ) → 10 ^ 15 ≤ n → n < 10 ^ 16 → last_digits 16 n ≡ decimal n
 full_row n wide small =
     row_split 16 15 n (omega arith)

@@ -16,7 +16,8 @@ minus_is : (negative : Bool) → IsMinus (minus_text negative) negative
 minus_is true = inr (refl, refl)
 minus_is false = inl (refl, refl)
 
--- the parts of a text, and the number that they denote
+-- If a sign, a whole part, a fraction and an exponent denote `n`, their bytes in this order spell
+-- `n`.
 pub spelled : (n : Decimal) (negative : Bool) (whole fraction fraction_text exponent_text : List ℕ) (has_point has_exponent : Bool) (z : ℤ)
     → IsWhole whole → IsFraction fraction_text fraction has_point → IsExponent exponent_text z has_exponent
     → n.point ≡ has_point || has_exponent → Strips (signed negative (value (whole ++ fraction))) (z -ℤ pos (length fraction)) n
@@ -42,7 +43,7 @@ spelled n negative whole fraction fraction_text exponent_text has_point has_expo
 pub at_text : (t u : List ℕ) (n : Decimal) → t ≡ u → Spells t n → Spells u n
 at_text t u n e s = rw e at s
 
--- a number that is not zero, by its digits
+-- In this module, `n` is a nonzero number with the digits `ds`.
 module _ (n : Decimal) (plain : IsPlain n) (ds : List ℕ) (negative : Bool) (below : Below ds) (first : 0 < get_or ds 0 0)
     (mantissa_is : n.mantissa ≡ signed negative (number_from_digits 10 ds)) where
   pub build : (whole fraction fraction_text exponent_text : List ℕ) (has_point has_exponent : Bool) (z : ℤ) (k : ℕ) → IsWhole whole
@@ -148,7 +149,7 @@ module _ (n : Decimal) (plain : IsPlain n) where
     shape_parts = choose (λ x. Spells (minus_text negative ++ x) n) n.point _ _ float_parts
         (integer_case n plain ds negative below first mantissa_is)
 
--- the text of a Num spells it
+-- The text of a `Num` spells that number.
 pub num_text_spells : (n : Decimal) → IsNum n → Spells (num_text n) n
 num_text_spells n h =
     let v = nat_abs n.mantissa in

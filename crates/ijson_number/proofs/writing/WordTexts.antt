@@ -1,4 +1,4 @@
--- The texts of numbers by their parts.
+-- The texts of numbers, assembled from their sign, whole part and fraction.
 use Rattle.ijson_number.proofs.Common.{◌≡◌, ◌≢◌, ℕ, ◌+◌, ◌-◌, ◌*◌, ◌/◌, ◌%◌, ◌^◌, ◌<◌, ◌≤◌, Bool, true, false, List, [], ◌∷◌, ◌++◌, length, refl, ap}
 use Rattle.ijson_number.proofs.Common.{sym, ◌∙◌, arith, inl, inr, ℤ, pos, negsuc, nat_abs, int_le, int_lt, ◌+ℤ◌, ◌-ℤ◌, nat_eq, not, cases_lt, or_from}
 use Rattle.ijson_number.proofs.Common.{decimal_digit, decimal_nonempty, ints, length-digits_of-le, length-append, length-map, take_at, drop_at}
@@ -32,7 +32,8 @@ module _ (magnitude : ℕ) (some : 0 < magnitude) (small : magnitude < 2 ^ 64) w
   pub count_is : length ds ≡ length (decimal magnitude)
   count_is = sym (length-map {A = ℕ} {B = ℕ} ds (λ d. 48 + d)) ∙ ap (λ (x : List ℕ). length x) text_is
 
-  -- the text if the point is between the digits or before them
+  -- In this module, `magnitude` is `whole * 10 ^ k + fraction`, and the last `k` digits are the
+  -- fraction.
   module _ (k whole fraction : ℕ) (scale : 0 < k) (is : magnitude ≡ whole * 10 ^ k + fraction) (below : fraction < 10 ^ k) (place : ℤ)
       (place_is : place ≡ pos (length ds) -ℤ pos k) where
     before_digits : whole ≡ 0 → point_text ds place ≡ decimal whole ++ 46 ∷ last_digits k fraction
@@ -73,7 +74,8 @@ module _ (magnitude : ℕ) (some : 0 < magnitude) (small : magnitude < 2 ^ 64) w
     pub fraction_is : point_text ds place ≡ decimal whole ++ 46 ∷ last_digits k fraction
     fraction_is = elim (cases_lt 0 whole) [ inl above ↦ between_digits above | inr none ↦ before_digits (omega arith) ]
 
--- an integer `z` with a magnitude below 2^64; `kept` is its digits without trailing zeros
+-- In this module, `z` is an integer whose absolute value is below `2 ^ 64`, and `kept` are its
+-- digits without trailing zeros.
 module _ (z : ℤ) (word : nat_abs z < 2 ^ 64) where
   abbrev magnitude : ℕ
   magnitude = nat_abs z
@@ -129,7 +131,7 @@ module _ (z : ℤ) (word : nat_abs z < 2 ^ 64) where
         let zeros : nat_abs (place -ℤ pos (length kept)) ≡ out.1 = omega (arith, ints) in
         rw (plain, float_text, first, second, point_text, zeros, last_zeros 1) (ap (λ x. x ++ (46 ∷ 48 ∷ [])) with_zeros)
 
-  -- without a decimal point, the text of `z` is the text of an integer
+  -- Without a decimal point, the text of `z` is its decimal text.
   pub integer_num_text : num_text (stripped_number z (pos 0) false) ≡ integer_text negative magnitude
   integer_num_text =
       elim (zero_or_not z) [
@@ -137,7 +139,7 @@ module _ (z : ℤ) (word : nat_abs z < 2 ^ 64) where
         | inr some ↦ stored_is some false ∙ ap (λ x. minus_text negative ++ x) (with_zeros some)
       ]
 
-  -- with a decimal point, the text of `z` is the text of an integer and `.0`
+  -- With a decimal point, the text of `z` is its decimal text followed by `.0`.
   pub whole_num_text : num_text (stripped_number z (pos 0) true) ≡ pointed_text negative magnitude 1 0
   whole_num_text =
       elim (zero_or_not z) [
@@ -145,7 +147,8 @@ module _ (z : ℤ) (word : nat_abs z < 2 ^ 64) where
         | inr some ↦ stored_is some true ∙ ap (λ x. minus_text negative ++ x) (some_float some)
       ]
 
--- the assembled text is the number's
+-- The text assembled from `n * 10` with one fraction digit is the text of the integer `n` with a
+-- decimal point.
 pub whole_shown : (m e s : ℤ) (n tens : ℕ) → s ≡ m → n ≡ nat_abs m → e ≡ pos 0 → n < 2 ^ 64 → tens ≡ n * 10
     → pointed_text (int_lt s (pos 0)) (tens / 10 ^ 1) 1 (tens % 10 ^ 1) ≡ num_text (stripped_number m e true)
 whole_shown m e s n tens sign magnitude none word is =
@@ -162,7 +165,7 @@ pub unsigned_shown : (n : Decimal) (magnitude : ℕ) → n ≡ stripped_number (
 unsigned_shown n magnitude number word = rw (not_lt (pos magnitude) (pos 0) (omega (arith, ints))) at
     (integer_shown n (pos magnitude) (pos magnitude) magnitude number refl refl word)
 
--- a packed number without a decimal point has no exponent
+-- A packed number without a decimal point has the exponent 0.
 pub packed_integer : (bits : ℕ) → word_point bits ≡ false
     → stripped_number (word_mantissa bits) (word_exponent bits) (word_point bits) ≡ stripped_number (word_mantissa bits) (pos 0) false
 packed_integer bits h = rw h
@@ -176,7 +179,7 @@ either_form : (b : Bool) (x y f : FormOf) → (let r : FormOf = elim b [ true �
 either_form true x y f e = inl (refl, e)
 either_form false x y f e = inr e
 
--- `smallest_packed` never returns a negative exponent
+-- `smallest_packed` never returns a negative exponent.
 not_smallest : (tries k : ℕ) (n : Decimal) (m e : ℤ) → e <ℤ pos 0 → smallest_packed tries k n ≡ packed m e true → ⊥
 not_smallest zero k n m e h is = cc
 not_smallest (suc tries) k n m e h is =
@@ -187,7 +190,8 @@ not_smallest (suc tries) k n m e h is =
       | inr p ↦ not_smallest tries (suc k) n m e h p
     ]
 
--- a number that is packed with a negative exponent has that exponent
+-- If a number is packed with a negative exponent, the number has this exponent, which is at least
+-- -7.
 kept_exponent : (n : Decimal) (m e : ℤ) → n.point ≡ true → e <ℤ pos 0 → form_of n ≡ packed m e true → (n.exponent ≡ e) × (negsuc 6 ≤ℤ n.exponent)
 kept_exponent n m e h l is = elim (sign_cases n.exponent) [
   | inl above ↦ absurd (not_smallest 8 0 n m e l (rw (h, le_test (pos 0) n.exponent above, form_of) at is))
@@ -199,7 +203,8 @@ kept_exponent n m e h l is = elim (sign_cases n.exponent) [
       ]
 ]
 
--- a packed number with a negative exponent, whose text has no exponent
+-- In this module, a number is packed with a negative exponent, and its text is written without an
+-- exponent.
 module _ (m e : ℤ) (k : ℕ) (word : nat_abs m < 2 ^ 64) (scale : 0 < k) (below : e ≡ neg_ℤ (pos k))
     (form : form_of (stripped_number m e true) ≡ packed m e true) (shown : 6 < k → 10 ≤ nat_abs m) where
   exponent_is : ((stripped_number m e true).exponent ≡ e) × (negsuc 6 ≤ℤ (stripped_number m e true).exponent)
@@ -299,7 +304,8 @@ row_shown n k p below is inside =
     (rw (front, behind, point_text) at (float_shape_is false n.point ds n.exponent (pos (length ds - k)) p place written))
     ∙ stored_text n.negative ds n.exponent n.point n.stripped.stripped (omega arith)
 
--- the point is before all digits, with few zeros between, so that the text has no exponent
+-- If the text of a number below 1 is written without an exponent, it is the sign, `0.`, zeros and
+-- the digits.
 pub below_one_shown : (n : StrippedNumber) (p : ℤ) → n.point ≡ true → 0 < length n.digits.now → p ≡ pos (length n.digits.now) +ℤ n.exponent
     → p ≤ℤ pos 0 → int_le p (negsuc 5) || int_lt (pos 20) n.exponent ≡ false
     → minus_text n.negative ++ (48 ∷ 46 ∷ zeros_text (nat_abs p) ++ digits_text n.digits.now) ≡ num_text (decimal_of n)
@@ -309,12 +315,13 @@ below_one_shown n p is some place front not_scientific =
     (rw (before, point_text) at (float_shape_is false n.point n.digits.now n.exponent p is place not_scientific))
     ∙ stored_text n.negative n.digits.now n.exponent n.point n.stripped.stripped some
 
--- `integer_text` is the text of an integer as std writes it
+-- `integer_text` is the text that the standard library writes for an integer.
 signed_is : (z : ℤ) → integer_text (int_lt z (pos 0)) (nat_abs z) ≡ signed_decimal z
 signed_is (pos n) = rw (not_lt (pos n) (pos 0) (omega (arith, ints))) refl
 signed_is (negsuc n) = refl
 
--- the point is after the first digit, and an exponent after the last
+-- If the text of a number is written with an exponent, it is the sign, the digits with the point
+-- after the first digit, `e` and the exponent.
 pub scientific_shown : (n : StrippedNumber) (p z : ℤ) → n.point ≡ true → 1 < length n.digits.now → p ≡ pos (length n.digits.now) +ℤ n.exponent
     → neg_ℤ (pos (2 ^ 70)) <ℤ p → p <ℤ pos (2 ^ 70) → int_le p (negsuc 5) || int_lt (pos 20) n.exponent ≡ true → z ≡ p -ℤ pos 1
     → split_text n.negative n.digits.now 1 ++ 101 ∷ integer_text (int_lt z (pos 0)) (nat_abs z) ≡ num_text (decimal_of n)
@@ -331,18 +338,19 @@ scientific_shown n p z is long place low high written power =
     ∙ ap (λ x. minus_text n.negative ++ x) (append_assoc first (46 ∷ rest) exponent ∙ shape)
     ∙ stored_text n.negative ds n.exponent n.point n.stripped.stripped (omega arith)
 
--- zero has no digits
+-- The text of the canonical digits of zero is empty.
 pub none_shown : (e : ℤ) (point : Bool) → digits_text (stripped_digits (stripped_number (pos 0) e point)) ≡ []
 none_shown e point = ap (λ n. digits_text (stripped_digits n)) (zero_is false e point)
 
--- the digits of another number are the text of its magnitude
+-- The text of the canonical digits of a nonzero significand is the decimal text of its magnitude.
 pub digits_shown : (s : Significand) → 0 < s.magnitude → s.magnitude < 2 ^ 64
     → decimal s.magnitude ≡ digits_text (stripped_digits (canonical_number s))
 digits_shown s some word =
     let m = s.magnitude in
     decimal_is m (omega arith) some ∙ ap digits_text (sym (rw (abs_signed s.negative m) (digits_are m m)))
 
--- a fact of all digits holds of the leading part, and of the rest
+-- In this module, `P` holds for each element of `front ++ back`, so it holds for each element of
+-- `front` and of `back`.
 module _ (P : ℕ → Type 0) (all front back : List ℕ) (parts : all ≡ front ++ back) (each : All P all) where
   pub front_too : All P front
   front_too = subst (All P) (take_at front back (length front) refl) (All-take P (length front) (front ++ back) (subst (All P) parts each))
@@ -350,7 +358,8 @@ module _ (P : ℕ → Type 0) (all front back : List ℕ) (parts : all ≡ front
   pub back_too : All P back
   back_too = subst (All P) (drop_at front back (length front) refl) (All-drop P (length front) (front ++ back) (subst (All P) parts each))
 
--- one run more is written
+-- After one more chunk of digits is written, the digits written, followed by the remaining digits,
+-- are still all digits.
 pub run_more : (done text run rest all : List ℕ) (whole : List ℕ) → all ≡ run ++ rest → text ≡ digits_text run → done ++ digits_text all ≡ whole
     → (done ++ text) ++ digits_text rest ≡ whole
 run_more done text run rest all whole is shown so_far =

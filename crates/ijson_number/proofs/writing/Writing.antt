@@ -1,4 +1,4 @@
--- The text of whole numbers, as std writes it.
+-- The text of an integer is the text that the standard library writes.
 use Rattle.ijson_number.proofs.Common.{◌≡◌, ℕ, zero, suc, ◌+◌, ◌/◌, ◌%◌, ◌^◌, ◌<◌, List, [], ◌∷◌, ◌++◌, length, take, drop, refl, ap, sym, ◌∙◌, arith}
 use Rattle.ijson_number.proofs.Common.{ℤ, pos, negsuc, neg_ℤ, nat_abs, Bool, true, false, ◌||◌, int_le, int_lt, ◌<ℤ◌, ◌+ℤ◌, ◌-ℤ◌, nat_eq, ints}
 use Rattle.ijson_number.proofs.Common.{nat_tests, decimal_by_steps_wide, decimal_digit, map-append, digits_of_step, decimal, signed_decimal}
@@ -40,7 +40,7 @@ more_digits [] f r p z a b n l h e = absurd (n (ap (λ (x : List ℕ). length x)
 more_digits (d ∷ []) f r p z a b n l h e = absurd (n (ap (λ (x : List ℕ). length x) b))
 more_digits (d ∷ c ∷ ds) f r p z a b n l h e = rw (a, b, power_text p z l h e) refl
 
--- digits with the point, with an exponent or without
+-- The text of digits with a decimal point, in scientific notation if `scientific` is true.
 abbrev pub float_shape : Bool → List ℕ → ℤ → List ℕ
 float_shape scientific ds p = elim scientific [ true ↦ scientific_text ds p | false ↦ point_text ds p ]
 
@@ -51,7 +51,7 @@ float_shape_is scientific point ds e p a b t = rw (a, b, ← rw b at t) refl
 pub below_zero : (negative : Bool) (v : ℕ) → 0 < v → int_lt (signed negative v) (pos 0) ≡ negative
 below_zero negative v h = grind (arith, ints, nat_tests)
 
--- the text of a stored number that is not zero
+-- The sign and the `shape_text` of nonzero stored digits are the text of their number.
 pub stored_text : (negative : Bool) (ds : List ℕ) (e : ℤ) (point : Bool) → IsStripped ds → 0 < length ds
     → minus_text negative ++ shape_text point ds e ≡ num_text (stored_number negative ds e point)
 stored_text negative ds e point s h =
@@ -61,7 +61,7 @@ stored_text negative ds e point s h =
     rw (abs_signed negative number) (not_zero number (λ z. omega (arith, n, z))) in
     rw (some, num_text, below_zero negative number (omega (arith, n)), stored_digits_are negative ds e point s) refl
 
--- a minus or none, and the digits after it, if they are those of the number
+-- If `x` stores the nonzero number `n`, the sign and the `shape_text` of `x` are the text of `n`.
 pub shown_text : (x : StrippedNumber) (n : Decimal) (minus : Bool) (bits : ℤ) → decimal_of x ≡ n → bits ≡ x.exponent
     → 0 < length x.digits.now → x.negative ≡ minus → minus_text minus ++ shape_text x.point x.digits.now bits ≡ num_text n
 shown_text x n minus bits is exact some sign =

@@ -1,4 +1,4 @@
--- Digits and texts in vectors and buffers.
+-- Texts of digits in vectors and buffers.
 use Rattle.ijson_number.proofs.Common.{ℕ, zero, suc, ◌+◌, ◌/◌, ◌%◌, ◌<◌, Bool, true, false, List, [], ◌∷◌, arith, recursion_from_All, IsAscii-nil}
 use Rattle.ijson_number.proofs.Common.{IsAscii-cons, IsAscii-push, All, AllByRecursion, IsAscii, digits_text, minus_text, ◌≡◌, ◌-◌, ◌*◌, ◌^◌, ◌≤◌}
 use Rattle.ijson_number.proofs.Common.{not, cond, eqb, min, get_or, replicate, take, drop, ◌++◌, map, length, length-append, length-drop, refl, sym}
@@ -16,7 +16,7 @@ pub sign_ascii : (negative : Bool) → IsAscii (minus_text negative)
 sign_ascii true = IsAscii-cons 45 [] (omega arith) IsAscii-nil
 sign_ascii false = IsAscii-nil
 
--- the texts are ASCII
+-- The text of the last digits of a number is ASCII.
 pub digits_ascii : (scale n : ℕ) → IsAscii (last_digits scale n)
 unfolding last_digits
 digits_ascii zero n = IsAscii-nil
@@ -29,8 +29,8 @@ digits_below (d ∷ ds) h = IsAscii-cons (48 + d) (digits_text ds) (let b = h.0 
 pub digits_text_ascii : (ds : List ℕ) → All (λ d. d < 10) ds → IsAscii (digits_text ds)
 digits_text_ascii ds h = digits_below ds (recursion_from_All (λ d. d < 10) ds h)
 
--- ---- the digits of pairs
--- the ones of two digits in the upper byte of 16 bits, and their tens in the lower one
+-- The 16-bit lane computed from a pair of digits. The lower byte is the tens digit, and the upper
+-- byte is the units digit.
 abbrev lane : ℕ → ℕ
 lane z = (z * 256 % 65536 + (65536 - z / 10 * 2559 % 65536)) % 65536
 
@@ -87,7 +87,7 @@ row_text_is n h =
     (rw (last_pair 4 (n / 10 ^ 10) (n / 10 ^ 12) (omega arith), last_pair 2 (n / 10 ^ 12) (n / 10 ^ 14) (omega arith))
     (rw (last_pair 0 (n / 10 ^ 14) (n / 10 ^ 16) (omega arith), none (n / 10 ^ 16), top) refl))))
 
--- ---- leading zeros
+-- Section: counting leading zeros.
 
 abbrev differs : ℕ → ℕ → Bool
 differs a b = not (eqb a b)
@@ -131,7 +131,7 @@ module _ (lanes : List ℕ) (long : length lanes ≡ 16) where
   unfolding count_trailing_zeros
   all_bits = refl
 
-  -- the lowest set bit is that of the first byte that is no zero
+  -- The number of leading `'0'` lanes is the index of the lowest set bit of the mask, at most 15.
   pub zeros_counted : (n : ℕ) → n ≡ min (count_trailing_zeros 64 bits) 15 → IsZerosInFront lanes n
   zeros_counted n is = elim (cases_eq (mask_l (map (λ b. differs b 48) lanes)) 0) [
     | inl none ↦ zeros_of n (let all = leading_from_mask_l (λ b. differs b 48) lanes none in rw (bits_are, none, all_bits) at is
@@ -139,9 +139,10 @@ module _ (lanes : List ℕ) (long : length lanes ≡ 16) where
     | inr some ↦ zeros_of n (rw (bits_are, trailing_mask_l (λ b. differs b 48) 64 lanes (omega arith) (omega arith)) at is)
   ]
 
--- ---- bytes that are appended and truncated
+-- Section: appending bytes and truncating the string.
 
--- some bytes of an appended ASCII text are kept
+-- In this module, the ASCII text `added` is appended, and the string is truncated to keep the first
+-- `count` bytes of it.
 module _ (old added : List ℕ) (ascii : IsAscii added) (count end : ℕ) (few : count ≤ length added) (is : end ≡ length old + count) where
   pub cut_point : IsSplitPoint (old ++ added) end
   cut_point = (
@@ -159,13 +160,14 @@ pub zeros_ascii : (n : ℕ) → IsAscii (replicate n 0)
 zeros_ascii zero = IsAscii-nil
 zeros_ascii (suc n) = IsAscii-cons 0 (replicate n 0) (omega arith) (zeros_ascii n)
 
--- bytes that begin with a text
+-- Holds if `bytes` is ASCII and its first `count` bytes are `text`.
 pub record IsFront (bytes : List ℕ) (count : ℕ) (text : List ℕ) : Type 0 where
   pub ascii : IsAscii bytes
   pub within : count ≤ length bytes
   pub shown : take count bytes ≡ text
 
--- the lanes from `start` on, before zeros
+-- In this module, the lanes from `start` on are moved to the start of a vector, and zeros follow
+-- them.
 module _ (lanes : List ℕ) (long : length lanes ≡ 16) (start count : ℕ) (within : start + count ≤ 16)
     (ascii : IsAscii (drop start lanes)) where
   pub front_all : length (drop start lanes ++ replicate start 0) ≡ 16
@@ -178,7 +180,7 @@ module _ (lanes : List ℕ) (long : length lanes ≡ 16) (start count : ℕ) (wi
     shown = take-append-le count (drop start lanes) (replicate start 0) (omega (arith, length-drop start lanes));
   }
 
--- ---- a minus instead of a zero
+-- Section: replacing a leading zero by the minus sign.
 
 abbrev pub less : ℕ → ℕ → ℕ
 less a b = (a + (2 ^ 8 - b)) % 2 ^ 8
@@ -190,7 +192,8 @@ less_nothing (b ∷ bs) (suc n) long h =
     let first : less b 0 ≡ b = omega (arith, h.0) in
     let rest = less_nothing bs n (omega arith) h.1 in λ i. first i ∷ rest i
 
--- the lanes from `start` on, moved to the start and after the minus, if there is one
+-- In this module, a `'0'` precedes the lanes from `start` on. A minus sign replaces the `'0'` if
+-- the number is negative.
 module _ (lanes : List ℕ) (long : length lanes ≡ 16) (ascii : IsAscii lanes) (start : ℕ) (some : (0 < start) × (start ≤ 16))
     (zero_before : get_or lanes (start - 1) 0 ≡ 48) where
   abbrev behind : ℕ → List ℕ
@@ -228,7 +231,7 @@ module _ (lanes : List ℕ) (long : length lanes ≡ 16) (ascii : IsAscii lanes)
       rw next (ap (λ l. 45 ∷ l) (take_at (drop start lanes) (replicate begin 0) (16 - start) (omega (arith, length-drop start lanes))))
   signed_shown false begin from = take_at (drop start lanes) (replicate begin 0) (16 - begin) (omega (arith, length-drop start lanes))
 
--- a piece that replaces `many` bytes of a buffer
+-- The buffer `room` after `piece` replaces its `many` bytes from index `at` on.
 abbrev pub with_piece : (room piece : List ℕ) (at many : ℕ) → List ℕ
 with_piece room piece at many = take at room ++ (piece ++ drop many (drop at room))
 
@@ -258,7 +261,7 @@ minus_put false start is = rw is refl
 pub minus_length : (negative : Bool) → bool_byte negative ≡ length (minus_text negative)
 minus_length negative = grind arith
 
--- the buffer with both pieces and the point in it
+-- The buffer after the whole part, the point and the fraction are written to it.
 abbrev pub filled : (start count many more : ℕ) (whole fraction : List ℕ) → List ℕ
 filled start count many more whole fraction =
     with_piece (set (with_piece empty whole start many) (start + count) 46) fraction (start + count + 1) more
@@ -300,7 +303,7 @@ text_from : (ds : List ℕ) → AllByRecursion (λ d. d < 10) ds → map digit d
 text_from [] h = refl
 text_from (d ∷ ds) h = let first : digit d ≡ 48 + d = omega (arith, h.0) in let rest = text_from ds h.1 in λ i. first i ∷ rest i
 
--- the last digits of a buffer of 19
+-- In this module, `last` are the last 16 bytes of a buffer of 19 digits.
 module _ (buffer : List ℕ) (long : length buffer ≡ 19) where
   abbrev last : List ℕ
   last = take 16 (take 16 (drop 3 buffer))
@@ -323,6 +326,6 @@ module _ (buffer : List ℕ) (long : length buffer ≡ 19) where
       ∙ ap (map digit) (ap (drop (16 - count)) last_is ∙ drop-drop (16 - count) 3 buffer ∙ ap (λ n. drop n buffer) at)
       ∙ text_from (drop (19 - count) buffer) (recursion_from_All (λ d. d < 10) (drop (19 - count) buffer) below)
 
--- 16 digits
+-- Adding `'0'` to 16 digits yields their text.
 pub row_text : (ds : List ℕ) → length ds ≡ 16 → All (λ d. d < 10) ds → with_zero ds ≡ digits_text ds
 row_text ds long below = zip2_splat (λ a b. (a + b) % 2 ^ 8) ds 16 48 long ∙ text_from ds (recursion_from_All (λ d. d < 10) ds below)

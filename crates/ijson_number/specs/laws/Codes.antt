@@ -1,4 +1,4 @@
--- Decimals and Nums are sets, and a decimal is a Num in at most one way.
+-- Two proofs that a decimal is a `Num` are equal, so two `Num`s with the same decimal are equal.
 use Rattle.std.specs.Prelude.{◌≡◌, ℤ, pos, Bool, refl, ◌≤ℤ◌}
 use Rattle.std.specs.Coded.{Coded, code_by, coded×, Coded-set, coded_ℤ, coded_bool, →_prop}
 use Rattle.std.proofs.Math.Dec.{T_prop}
@@ -27,7 +27,7 @@ IsPlain-prop n x y i = record {
   whole = →_prop (≤ℤ_prop (pos 0) n.exponent) x.whole y.whole i;
 }
 
--- a decimal is a Num in at most one way
+-- Two proofs of `IsNum n` are equal.
 pub IsNum-prop : (n : Decimal) → IsProp (IsNum n)
 IsNum-prop n x y i = record {
   plain = IsPlain-prop n x.plain y.plain i;
@@ -43,7 +43,7 @@ num_code =
     (λ p. record { decimal = p.0; is_num = p.1 })
     (λ _. refl)
 
--- two Nums of one decimal are equal
+-- Two `Num`s with the same decimal are equal.
 pub num_same : (a b : Num) → a.decimal ≡ b.decimal → a ≡ b
 num_same a b e =
     ap

@@ -1,4 +1,4 @@
--- The number of an integer has its value.
+-- The stripped decimal of an integer has that integer's value.
 use Rattle.std.proofs.Common.{◌≡◌, ℕ, zero, suc, ◌*◌, ◌/◌, ◌%◌, ◌^◌, Bool, true, false, refl, ap, ap₂, sym, ◌∙◌, arith}
 use Rattle.std.specs.Prelude.{ℤ, pos, negsuc, nat_abs, nat_eq, int_lt, ◌*ℤ◌, ◌-ℤ◌, ◌≤ℤ◌}
 use Rattle.std.specs.Cmp.{int_cmp_total, tied_itself}
@@ -25,7 +25,7 @@ one_turn : (b : Bool) (n : ℕ) (r : ℕ × ℕ) → nat_eq (n % 10) 0 ≡ b →
 one_turn true n r e h = let z : n % 10 ≡ 0 = grind arith in ten_more n r.0 r.1 z h
 one_turn false n r e h = omega arith
 
--- the zeros that are stripped, appended again
+-- Multiplying the stripped number by ten for each stripped zero yields the original number.
 zeros_again : (turns n : ℕ) → n ≡ (tens_out turns n).0 * 10 ^ (tens_out turns n).1
 unfolding tens_out
 zeros_again zero n = omega arith

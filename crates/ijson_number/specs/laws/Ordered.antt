@@ -1,4 +1,4 @@
--- The order of numbers is a total order.
+-- The order of numbers by value is a total order.
 use Rattle.std.proofs.Common.{◌≡◌, ℕ, zero, suc, ◌+◌, ◌-◌, ◌*◌, ◌^◌, ◌<◌, ◌≤◌, true, false, refl}
 use Rattle.std.proofs.Common.{ap, sym, ◌∙◌, arith, pow-add, inl, inr, ap₂}
 use Rattle.std.specs.Prelude.{ℤ, pos, negsuc, neg_ℤ, nat_abs, nat_lt, int_lt, ◌*ℤ◌, ◌-ℤ◌, ◌≤ℤ◌}
@@ -78,7 +78,7 @@ lower n c d h g =
     ∙ ap (λ k. n.mantissa *ℤ pos k) (pow-add 10 (nat_abs (n.exponent -ℤ c)) (nat_abs (c -ℤ d)))
     ∙ times n.mantissa (10 ^ nat_abs (n.exponent -ℤ c)) (10 ^ nat_abs (c -ℤ d))
 
--- the order is the same at any exponent that is at most both exponents
+-- Scaling both mantissas to any exponent `d` up to both exponents keeps the order of the numbers.
 pub rescale : (a b : Decimal) (d : ℤ) → d ≤ℤ a.exponent → d ≤ℤ b.exponent
     → number_cmp a b ≡ int_cmp (at_exponent d a) (at_exponent d b)
 rescale a b d h g =
@@ -129,11 +129,11 @@ number_cmp_total = record {
   congr = order_congr;
 }
 
--- equality by value is an equivalence
+-- Equality by value is an equivalence relation.
 pub number_eq_equiv : IsEquivalence number_eq
 number_eq_equiv = eq_by_cmp_equiv number_cmp_total
 
--- if `is_eq` is true, the order is Equal
+-- If `is_eq o` is true, then `o` is `Equal`.
 pub tests_equal : (o : Ordering) → is_eq o ≡ true → o ≡ Equal
 tests_equal Less h = absurd (cc)
 tests_equal Equal h = refl
@@ -145,7 +145,7 @@ cmp_equal x y h = grind (arith, ints)
 same_span : (a b c : ℤ) (j k : ℕ) → a -ℤ c ≡ pos j → b -ℤ c ≡ pos k → j ≡ k → a ≡ b
 same_span a b c j k x y e = omega (arith, ints)
 
--- plain numbers of equal value have the same significand and the same exponent
+-- Canonical numbers of equal value have the same mantissa and the same exponent.
 pub equal_same : (a b : Decimal) → IsPlain a → IsPlain b → number_cmp a b ≡ Equal
     → (a.mantissa ≡ b.mantissa) × (a.exponent ≡ b.exponent)
 equal_same a b p q h =
@@ -164,20 +164,20 @@ equal_same a b p q h =
       ],
     )
 
--- plain numbers of equal value feed the same words
+-- Canonical numbers of equal value have the same `number_words`.
 pub equal_words : (a b : Decimal) → IsPlain a → IsPlain b → number_cmp a b ≡ Equal → number_words a ≡ number_words b
 equal_words a b p q h =
     let r = equal_same a b p q h in
     ap (λ (m : ℤ). number_words (record { mantissa = m; exponent = a.exponent; point = false })) r.0
     ∙ ap (λ (e : ℤ). number_words (record { mantissa = b.mantissa; exponent = e; point = false })) r.1
 
--- numbers with the same significand and the same exponent are equal
+-- Numbers with the same mantissa and the same exponent are equal by value.
 pub same_equal : (a b : Decimal) → a.mantissa ≡ b.mantissa → a.exponent ≡ b.exponent → number_cmp a b ≡ Equal
 same_equal a b p q =
     ap₂ (λ (m e : ℤ). number_cmp a (record { mantissa = m; exponent = e; point = b.point })) (sym p) (sym q)
     ∙ tied_itself number_cmp_total a
 
--- equal numbers feed a hasher the same words
+-- Numbers of equal value feed a hasher the same bytes.
 pub equal_feed : (a b : Num) → number_eq a.decimal b.decimal ≡ true
     → flat_map fed.u64 (number_words a.decimal) ≡ flat_map fed.u64 (number_words b.decimal)
 equal_feed a b h = ap (flat_map fed.u64) (equal_words a.decimal b.decimal a.is_num.plain b.is_num.plain (tests_equal _ h))

@@ -1,4 +1,4 @@
--- Stripping the trailing zeros of a whole number has one result.
+-- The result of stripping the trailing zeros of a mantissa is unique.
 use Rattle.std.proofs.Common.{◌≡◌, ◌≢◌, ◌⊎◌, ℕ, zero, suc, ◌+◌, ◌-◌, ◌*◌, ◌%◌, ◌^◌, ◌<◌, ◌≤◌, pow-add}
 use Rattle.std.proofs.Common.{Bool, true, false, refl, ap, sym, ◌∙◌, inl, inr, arith}
 use Rattle.std.specs.Prelude.{ℤ, pos, negsuc, neg_ℤ, nat_abs, ◌*ℤ◌, ◌+ℤ◌}
@@ -32,7 +32,8 @@ one_less a b j k e =
     let f : a * (10 * 10 ^ j) ≡ b * (10 * 10 ^ k) = rw (pow-succ' 10 j, pow-succ' 10 k) at e in
     omega arith
 
--- ten divides neither, so the exponents are equal
+-- If `a * 10 ^ j` equals `b * 10 ^ k` and ten divides neither nonzero `a` nor nonzero `b`, then `a`
+-- equals `b`, and `j` equals `k` unless `a` is 0.
 nat_tens : (a b j k : ℕ) → (a ≢ 0 → a % 10 ≢ 0) → (b ≢ 0 → b % 10 ≢ 0) → a * 10 ^ j ≡ b * 10 ^ k
     → (a ≡ b) × (a ≢ 0 → j ≡ k)
 nat_tens a b zero zero p q e = (omega arith, λ _. refl)
@@ -106,7 +107,7 @@ strips_apart m e n n' j k g h p q x y =
       ],
     )
 
--- stripping trailing zeros has one result
+-- Two decimals that strip the same `m` and `e` have the same mantissa and the same exponent.
 pub strips_one : (m e : ℤ) (n n' : Decimal) → Strips m e n → Strips m e n'
     → (n.mantissa ≡ n'.mantissa) × (n.exponent ≡ n'.exponent)
 strips_one m e n n' s t =
@@ -121,7 +122,7 @@ strips_one m e n n' s t =
       ]
     ]
 
--- a power of ten is at most a higher one
+-- If `a <= b`, then `10 ^ a <= 10 ^ b`.
 pub power_le : (a b : ℕ) → a ≤ b → 10 ^ a ≤ 10 ^ b
 power_le a b h =
     let e : b ≡ a + (b - a) = omega arith in

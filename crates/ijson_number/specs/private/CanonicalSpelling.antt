@@ -1,4 +1,4 @@
--- The parts of a text that the general reader returns.
+-- The parts of a number that a `Spelling` of the general reader denotes.
 use Rattle.std.specs.Prelude.{ℕ, List, ◌++◌}
 use Rattle.ijson_number.specs.Decimal.{Decimal}
 use Rattle.ijson_number.specs.Num.{IsNum}
@@ -25,7 +25,8 @@ spelled_digits s = digits_from_text (s.front.now ++ s.back.now)
 abbrev pub spelled_number : CanonicalSpelling → Decimal
 spelled_number s = stored_number s.negative (spelled_digits s) s.exponent s.point
 
--- digits that are still text, and the canonical parts of a Num
+-- Holds if the digits of `s` are ASCII digits, form a canonical mantissa, and denote a number
+-- within the limits.
 pub record IsCanonicalSpelling (s : CanonicalSpelling) : Type 0 where
   pub front : AllDigits s.front.now
   pub back : AllDigits s.back.now

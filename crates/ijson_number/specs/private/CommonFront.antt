@@ -1,41 +1,48 @@
--- The leading numbers that are read in one pass.
+-- The leading numbers that the fast reader accepts.
 use Rattle.std.specs.Prelude.{◌≡◌, ◌≢◌, ◌⊎◌, ℕ, ◌+◌, ◌≤◌, Bool, false, List, [], ◌∷◌, ◌++◌, length}
 use Rattle.std.specs.Char.{is_ascii_alphanumeric}
 use Rattle.ijson_number.specs.Grammar.{IsDigit, IsDigits, IsFraction, IsMinus, IsWhole, Parts}
 
--- the text ends, or continues with neither a digit nor a letter
+-- Holds if the input is empty or begins with a byte that is neither a digit nor a letter.
 abbrev pub EndsToken : List ℕ → Type 0
 EndsToken [] = Unit {0}
 EndsToken (b ∷ bs) = is_ascii_alphanumeric b ≡ false
 
--- one to four digits
+-- Holds if the bytes are one to four digits.
 abbrev pub IsFewDigits : List ℕ → Type 0
 IsFewDigits ds = IsDigits ds × (length ds ≤ 4)
 
--- one to four digits, after '+', '-' or no sign
+-- Holds if the bytes are an optional `'+'` or `'-'` and one to four digits.
 abbrev pub IsFewSigned : List ℕ → Type 0
 IsFewSigned [] = ⊥
 IsFewSigned (b ∷ bs) = ((b ≡ 43 ⊎ b ≡ 45) × IsFewDigits bs) ⊎ IsFewDigits (b ∷ bs)
 
--- nothing, or 'e' or 'E' and a signed number of at most four digits
+-- Holds if the bytes are empty, or `'e'` or `'E'` and a signed integer of one to four digits.
 abbrev pub IsFewExponent : List ℕ → Type 0
 IsFewExponent [] = Unit {0}
 IsFewExponent (b ∷ bs) = (b ≡ 101 ⊎ b ≡ 69) × IsFewSigned bs
 
--- the text is an exponent of at most four digits or none, then the rest, which ends the token
+-- Holds if `text` is an optional exponent of at most four digits followed by `rest`, and `rest`
+-- does not begin with a digit or a letter.
 pub record IsExponentTail (text rest : List ℕ) : Type 0 where
   pub exponent_text : List ℕ
   pub text_is : text ≡ exponent_text ++ rest
   pub exponent : IsFewExponent exponent_text
   pub ends : EndsToken rest
 
--- the text ends, or continues with no digit, and if no point was written with none
+-- Holds if the input does not continue a number's digits: it does not begin with a digit, nor with
+-- `'.'` if `has_point` is false.
 abbrev pub EndsDigits : (has_point : Bool) → List ℕ → Type 0
 EndsDigits has_point [] = Unit {0}
 EndsDigits has_point (b ∷ bs) = (IsDigit b → ⊥) × (has_point ≡ false → b ≢ 46)
 
--- the text is a whole part and a fraction or none, of at most 19 digits together, not counting a single zero before the point, an exponent
--- of at most four digits or none, and the rest
+-- Holds if `text` is a number with the parts `p` followed by `rest`, and the fast reader accepts
+-- the number.
+--
+-- - The whole part and the fraction have at most 19 digits together, not counting a single `0`
+--   before the point.
+-- - The exponent has at most four digits.
+-- - Neither a digit nor a letter follows.
 pub record IsCommonFront (text : List ℕ) (p : Parts) (rest : List ℕ) : Type 0 where
   pub minus_text : List ℕ
   pub fraction_text : List ℕ

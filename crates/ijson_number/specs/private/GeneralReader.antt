@@ -1,4 +1,4 @@
--- The parts that the general reader splits off a text, and where it stops.
+-- The parts that the general reader splits off the input, and where each part ends.
 use Rattle.std.specs.Prelude.{◌≡◌, ◌⊎◌, ℕ, ℤ, Bool, true, false, List, [], ◌∷◌, ◌++◌}
 use Rattle.ijson_number.specs.Strips.{signed}
 use Rattle.ijson_number.specs.Grammar.{AllDigits, IsExponent, IsFraction, IsSpelled, IsWhole, Parts, value}
@@ -9,18 +9,21 @@ use Rattle.ijson_number.specs.NumberFront.{HasNoPoint}
 use Rattle.ijson_number.specs.declared.general_reader.Spelling.{Spelling}
 use Rattle.ijson_number.specs.declared.general_reader.Tail.{Tail}
 
--- a whole part, and the text after it
+-- Holds if `text` is the digits `whole` followed by `rest`, and `whole` is the longest possible
+-- whole part.
 pub record IsWholeRead (text whole rest : List ℕ) : Type 0 where
   pub text_is : text ≡ whole ++ rest
   pub whole_is : IsWhole whole
   pub ends : (whole ≡ 48 ∷ []) ⊎ BeginsWithNoDigit rest
 
--- the text after a fraction, or after none
+-- Holds if `rest` does not continue the fraction: it does not begin with a digit if a fraction was
+-- read, nor with `'.'` otherwise.
 abbrev pub EndsFraction : (has_point : Bool) → List ℕ → Type 0
 EndsFraction false rest = HasNoPoint false rest
 EndsFraction true rest = BeginsWithNoDigit rest
 
--- a fraction or none, its digits, and the text after it
+-- Holds if `text` is an optional fraction with these digits followed by `rest`, and the fraction is
+-- as long as possible.
 pub record IsFractionRead (text digits rest : List ℕ) : Type 0 where
   pub front : List ℕ
   pub has_point : Bool
@@ -28,17 +31,19 @@ pub record IsFractionRead (text digits rest : List ℕ) : Type 0 where
   pub fraction : IsFraction front digits has_point
   pub ends : EndsFraction has_point rest
 
--- the text ends, or begins with neither 'e' nor 'E'
+-- Holds if the input is empty or begins with neither `'e'` nor `'E'`.
 abbrev pub BeginsWithNoLetter : List ℕ → Type 0
 BeginsWithNoLetter [] = Unit {0}
 BeginsWithNoLetter (b ∷ bs) = is_letter b ≡ false
 
--- the text after an exponent, or after none
+-- Holds if `rest` does not continue the exponent: it does not begin with a digit if an exponent was
+-- read, nor with `'e'` or `'E'` otherwise.
 abbrev pub EndsExponent : (has_exponent : Bool) → List ℕ → Type 0
 EndsExponent false rest = BeginsWithNoLetter rest
 EndsExponent true rest = BeginsWithNoDigit rest
 
--- an exponent or none, its sign and digits, and the text after it
+-- Holds if `text` is an optional exponent with this sign and these digits followed by `rest`, and
+-- the exponent is as long as possible.
 pub record IsExponentRead (text : List ℕ) (negative : Bool) (digits rest : List ℕ) : Type 0 where
   pub front : List ℕ
   pub has_exponent : Bool
@@ -47,7 +52,8 @@ pub record IsExponentRead (text : List ℕ) (negative : Bool) (digits rest : Lis
   pub all_digits : AllDigits digits
   pub ends : EndsExponent has_exponent rest
 
--- an exponent without digits, and the text after it
+-- Holds if `text` is `'e'` or `'E'` and an optional sign followed by `rest`, and `rest` does not
+-- begin with a digit.
 pub record IsExponentCut (text rest : List ℕ) : Type 0 where
   pub first : ℕ
   pub sign : List ℕ
@@ -58,7 +64,8 @@ pub record IsExponentCut (text rest : List ℕ) : Type 0 where
   pub halts : Halts letter sign rest
   pub unfinished : is_final halts.at ≡ false
 
--- the part after the whole digits, and the text after it
+-- Holds if `text` is the fraction and exponent stored in `tail` followed by `rest`, and the first
+-- byte of `rest` cannot continue the number.
 pub record IsTailRead (text : List ℕ) (tail : Tail) (rest : List ℕ) : Type 0 where
   pub front : List ℕ
   pub text_is : text ≡ front ++ rest
@@ -66,7 +73,7 @@ pub record IsTailRead (text : List ℕ) (tail : Tail) (rest : List ℕ) : Type 0
   pub all_digits : AllDigits tail.exponent.now
   pub halts : Halts zero_digit front rest
 
--- the part after the whole digits without its last digits, and the text after it
+-- Holds if `text` is an incomplete fraction or exponent, such as `.` or `.5e+`, followed by `rest`.
 pub record IsTailCut (text rest : List ℕ) : Type 0 where
   pub front : List ℕ
   pub fraction : List ℕ
@@ -76,7 +83,8 @@ pub record IsTailCut (text rest : List ℕ) : Type 0 where
   pub halts : Halts zero_digit front rest
   pub unfinished : is_final halts.at ≡ false
 
--- the parts of the leading number, and the text after it
+-- Holds if `text` is a number with the parts in `spelling` followed by `rest`, and the number is as
+-- long as possible.
 pub record IsSpellingRead (text : List ℕ) (spelling : Spelling) (rest : List ℕ) : Type 0 where
   pub front : List ℕ
   pub text_is : text ≡ front ++ rest
@@ -84,7 +92,8 @@ pub record IsSpellingRead (text : List ℕ) (spelling : Spelling) (rest : List �
   pub all_digits : AllDigits spelling.tail.exponent.now
   pub halts : Halts start front rest
 
--- the beginning of a number that is none itself, and the text after it
+-- Holds if `text` is an incomplete number, such as `-` or `1.`, followed by `rest`. A number can
+-- begin with these bytes, but not with one byte more.
 pub record IsCut (text rest : List ℕ) : Type 0 where
   pub front : List ℕ
   pub parts : Parts

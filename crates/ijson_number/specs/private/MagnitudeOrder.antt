@@ -1,4 +1,4 @@
--- The order of the absolute values of two numbers.
+-- The order of two numbers by absolute value.
 use Rattle.std.specs.Prelude.{false, true}
 use Rattle.std.specs.declared.cmp.Ordering.{Ordering}
 use Rattle.ijson_number.specs.Decimal.{Decimal}

@@ -1,9 +1,11 @@
--- Reading a number byte by byte: the states of a reader, and where it stops.
+-- Reading a number byte by byte: the states of the reader, and where it stops.
 use Rattle.std.specs.Prelude.{◌≡◌, ℕ, Bool, true, false, ◌||◌, ◌==◌, cond, List, [], ◌∷◌, ⊤, Option, Some, None}
 use Rattle.ijson_number.specs.NumberBytes.{is_digit}
 
--- the last byte read: none, the minus, a leading zero, another whole digit, the point, a fraction digit, 'e' or 'E', the sign of the
--- exponent, a digit of the exponent
+-- The state of a reader of numbers, named after the last byte that it read.
+--
+-- The states are: no byte, the minus sign, a leading zero, any other whole digit, the decimal
+-- point, a fraction digit, `'e'` or `'E'`, the sign of the exponent, and a digit of the exponent.
 pub data State : Type 0 where
   start : State
   minus : State
@@ -18,7 +20,7 @@ pub data State : Type 0 where
 abbrev pub is_letter : ℕ → Bool
 is_letter b = (b == 101) || (b == 69)
 
--- the state after one more byte, if a number can continue with that byte
+-- The state after one more byte, or `None` if the byte cannot continue a number.
 abbrev pub next : State → ℕ → Option State
 next start b = cond (b == 45) (Some minus) (cond (b == 48) (Some zero_digit) (cond (is_digit b) (Some whole_digit) None))
 next minus b = cond (b == 48) (Some zero_digit) (cond (is_digit b) (Some whole_digit) None)
@@ -34,12 +36,12 @@ abbrev pub step : Option State → ℕ → Option State
 step None b = None
 step (Some s) b = next s b
 
--- the state after these bytes
+-- The state after reading all bytes of a list.
 abbrev pub after : Option State → List ℕ → Option State
 after s [] = s
 after s (b ∷ bs) = after (step s b) bs
 
--- a number may end in this state
+-- Returns `true` if the bytes read so far are a complete number.
 abbrev pub is_final : State → Bool
 is_final start = false
 is_final minus = false
@@ -51,12 +53,13 @@ is_final letter = false
 is_final sign = false
 is_final exponent_digit = true
 
--- the text ends, or no number goes on with its first byte
+-- Holds if the input is empty or its first byte cannot continue the number.
 abbrev pub IsStuck : State → List ℕ → Type 0
 IsStuck s [] = ⊤
 IsStuck s (b ∷ bs) = next s b ≡ None
 
--- `bytes` lead from state `s` to state `at`, and `rest` is empty or begins with a byte that cannot continue the number
+-- Holds if reading `bytes` in state `s` ends in state `at`, and the first byte of `rest`, if any,
+-- cannot continue the number.
 pub record Halts (s : State) (bytes rest : List ℕ) : Type 0 where
   pub at : State
   pub runs : after (Some s) bytes ≡ Some at

@@ -1,4 +1,4 @@
--- The digits of a block.
+-- The digits stored in a `ShortDigits`, most significant first.
 use Rattle.std.specs.Prelude.{ℕ, List}
 use Rattle.ijson_number.specs.declared.repr.stored.ShortDigits.{ShortDigits}
 use Rattle.ijson_number.specs.private.StoredNumber.{buffer_digits}

@@ -1,4 +1,5 @@
--- A sign, a magnitude, an exponent and a decimal point, as the fast reader returns them.
+-- Significands, as the fast reader returns them. `significand_of` assembles a significand from its
+-- fields.
 use Rattle.std.specs.Prelude.{◌≡◌, ◌⊎◌, ℕ, ◌+◌, ◌^◌, ◌<◌, ◌≤◌, Bool, List, ◌++◌, drop, length, nat_lt, take, true, false}
 use Rattle.std.specs.Prelude.{ℤ, pos, negsuc, neg_ℤ, ◌*◌, ◌+ℤ◌, ◌≤ℤ◌}
 use Rattle.std.specs.Int.Digits.{number_from_digits_after}
@@ -17,21 +18,23 @@ abbrev pub significand_of : (negative : Bool) (magnitude : ℕ) (exponent : ℤ)
 significand_of negative magnitude exponent point =
     record { negative = negative; magnitude = magnitude; exponent = exponent; point = point }
 
--- the number that a significand and its exponent denote
+-- The number that a significand denotes, without trailing zeros in its mantissa.
 abbrev pub significand_number : Significand → Decimal
 significand_number s = stripped_number (signed s.negative s.magnitude) s.exponent s.point
 
--- that number, if ten does not divide the magnitude
+-- The number that a significand denotes if ten does not divide its magnitude.
 abbrev pub canonical_number : Significand → Decimal
 canonical_number s = record { mantissa = signed s.negative s.magnitude; exponent = s.exponent; point = s.point }
 
--- trailing zeros of the magnitude were stripped, and added to the exponent
+-- Holds if `t` is `s` with `count` trailing zeros of its magnitude stripped, and the exponent
+-- increased by `count`.
 pub record HasFewerTens (s t : Significand) : Type 0 where
   pub count : ℕ
   pub magnitude : s.magnitude ≡ t.magnitude * 10 ^ count
   pub exponent : t.exponent ≡ s.exponent +ℤ pos count
 
--- a fraction or none, the text after it, and the number with its digits appended
+-- Holds if `text` is an optional fraction of `scale` digits followed by `rest`, and `longer` is
+-- `number` with these digits appended.
 pub record IsFractionTaken (number : ℕ) (text : List ℕ) (longer scale : ℕ) (rest : List ℕ) : Type 0 where
   pub front : List ℕ
   pub digits : List ℕ
@@ -43,7 +46,11 @@ pub record IsFractionTaken (number : ℕ) (text : List ℕ) (longer scale : ℕ)
   pub small : longer < 10 ^ 19
   pub no_point : HasNoPoint (nat_lt 0 scale) rest
 
--- a fraction of few digits or none after a number of `count` digits, and the text after it
+-- Holds if `text` is the optional fraction `front` followed by `rest`, and the fraction has few
+-- digits.
+--
+-- The `count` whole digits of `number` and the fraction digits are at most 19 digits together. If
+-- `number` is 0, the fraction alone has at most 19 digits.
 pub record IsFewFraction (number count : ℕ) (text front rest : List ℕ) : Type 0 where
   pub digits : List ℕ
   pub has_point : Bool
@@ -52,7 +59,7 @@ pub record IsFewFraction (number count : ℕ) (text front rest : List ℕ) : Typ
   pub few : (count + length digits ≤ 19) ⊎ ((number ≡ 0) × (length digits ≤ 19))
   pub ends : EndsDigits has_point rest
 
--- a leading sign, whole part and fraction of few digits, and the text after them
+-- Holds if `text` is a sign, a whole part and a fraction that `f` denotes, followed by `rest`.
 pub record IsMantissa (text : List ℕ) (f : Front) (rest : List ℕ) : Type 0 where
   pub minus_text : List ℕ
   pub whole : List ℕ
@@ -69,19 +76,24 @@ pub record IsMantissa (text : List ℕ) (f : Front) (rest : List ℕ) : Type 0 w
   pub small : f.significand.magnitude < 10 ^ 19
   pub no_point : HasNoPoint f.significand.point rest
 
--- an exponent of at most four digits
+-- Holds if the absolute value of the exponent is at most 9999.
 abbrev pub IsPowerSmall : ℤ → Type 0
 IsPowerSmall power = (neg_ℤ (pos 9999) ≤ℤ power) × (power ≤ℤ pos 9999)
 
--- a leading exponent of `count` bytes
+-- Holds if the first `count` bytes of `text` are an exponent of value `power` with at most four
+-- digits, and neither a digit nor a letter follows.
 pub record IsPower (text : List ℕ) (power : ℤ) (count : ℕ) : Type 0 where
   pub within : count ≤ length text
   pub exponent : IsExponent (take count text) power true
   pub small : IsPowerSmall power
   pub ends : EndsToken (drop count text)
 
--- a magnitude below 10 ^ 19, a small exponent, and a number within the limits; the exponent is 0 without a decimal point, and that of
--- zero is at least -19
+-- Holds if the fast reader can return the significand.
+--
+-- - The magnitude is below `10 ^ 19`.
+-- - The absolute value of the exponent is at most 10050.
+-- - The exponent is 0 without a decimal point, and at least -19 for zero.
+-- - The number is within the limits.
 pub record IsSmall (s : Significand) : Type 0 where
   pub magnitude : s.magnitude < 10 ^ 19
   pub low : neg_ℤ (pos 10050) ≤ℤ s.exponent
@@ -90,7 +102,7 @@ pub record IsSmall (s : Significand) : Type 0 where
   pub zero : s.magnitude ≡ 0 → neg_ℤ (pos 19) ≤ℤ s.exponent
   pub num : IsNum (significand_number s)
 
--- a leading number, and its length in bytes
+-- Holds if `text` begins with the number `f` and does not continue it.
 pub record IsFront (text : List ℕ) (f : Front) : Type 0 where
   pub within : f.length ≤ length text
   pub spelled : Spells (take f.length text) (significand_number f.significand)
@@ -98,6 +110,6 @@ pub record IsFront (text : List ℕ) (f : Front) : Type 0 where
   pub ends : EndsToken (drop f.length text)
   pub digits_end : EndsDigits f.significand.point (drop f.length text)
 
--- at most seven fraction digits and a magnitude below 2 ^ 55
+-- Holds if a significand has at most seven fraction digits and a magnitude below `2 ^ 55`.
 abbrev pub IsCommonWord : Significand → Type 0
 IsCommonWord s = (negsuc 6 ≤ℤ s.exponent) × (s.exponent ≤ℤ pos 0) × (s.magnitude < 2 ^ 55)

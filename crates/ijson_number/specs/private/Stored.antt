@@ -1,4 +1,4 @@
--- The representation of a number.
+-- The representation that each kind of stored number denotes.
 use Rattle.std.specs.Prelude.{◌≡◌, ◌↔◌, ⊤}
 use Rattle.ijson_number.specs.Decimal.{Decimal}
 use Rattle.ijson_number.specs.Form.{FormOf, packed, signed_word, unsigned_word, digits, form_of}
@@ -26,11 +26,11 @@ stored_form (Long number) = long_form number.value
 abbrev pub stored_decimal : Stored → Decimal
 stored_decimal stored = form_number (stored_form stored)
 
--- the representation is the form of its number
+-- Holds if the number is stored in the representation that `form_of` selects for it.
 abbrev pub IsForm : Stored → Type 0
 IsForm stored = form_of (stored_decimal stored) ≡ stored_form stored
 
--- few digits, in one block with the sign and the exponent
+-- Holds if the number is stored in one block with up to 19 digits, its sign and its exponent.
 abbrev pub IsShort : Stored → Type 0
 IsShort (Short number) = ⊤
 IsShort (Long number) = ⊥
@@ -38,12 +38,13 @@ IsShort (Packed word) = ⊥
 IsShort (I64 value) = ⊥
 IsShort (U64 value) = ⊥
 
--- a copy has the form of the original, and is a block if and only if the original is
+-- Holds if `copy` has the same representation as `stored`, and both are stored in a block or
+-- neither is.
 pub record IsCopy (stored copy : Stored) : Type 0 where
   pub form : stored_form copy ≡ stored_form stored
   pub short : IsShort stored ↔ IsShort copy
 
--- the form of the number is a list of digits
+-- Holds if the number is stored as a list of digits.
 abbrev pub IsList : Stored → Type 0
 IsList (Short number) = ⊤
 IsList (Long number) = ⊤

@@ -1,4 +1,4 @@
--- A number by its canonical digits.
+-- The number that a `StrippedNumber` denotes.
 use Rattle.ijson_number.specs.Decimal.{Decimal}
 use Rattle.ijson_number.specs.Num.{Num}
 use Rattle.ijson_number.specs.StoredNumber.{stored_number}
@@ -7,6 +7,6 @@ use Rattle.ijson_number.specs.declared.repr.stored.StrippedNumber.{StrippedNumbe
 abbrev pub decimal_of : StrippedNumber → Decimal
 decimal_of n = stored_number n.negative n.digits.now n.exponent n.point
 
--- with the proof that it is a Num
+-- The number that a `StrippedNumber` denotes, with its proof of `IsNum`.
 abbrev pub stripped_num : StrippedNumber → Num
 stripped_num n = record { decimal = decimal_of n; is_num = n.num }

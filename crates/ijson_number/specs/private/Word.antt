@@ -1,5 +1,10 @@
--- A packed number in one word of 64 bits; this project's own. Bits 8 to 63 are the mantissa in two's complement, bits
--- 4 to 7 the exponent plus 7, or 15 for a number without a decimal point, and bits 0 to 3 the value 8.
+-- A packed number in one word of 64 bits. The layout is this project's own.
+--
+-- | Bits | Content |
+-- |---|---|
+-- | 8 to 63 | the mantissa in two's complement |
+-- | 4 to 7 | the exponent plus 7, or 15 for a number without a decimal point |
+-- | 0 to 3 | the value 8 |
 use Rattle.std.specs.Prelude.{ℕ, ◌/◌, ◌%◌, ◌^◌, nat_eq, nat_lt, ℤ, pos, ◌-ℤ◌, Bool, true, false, not}
 
 abbrev pub word_mantissa : ℕ → ℤ

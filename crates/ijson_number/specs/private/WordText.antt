@@ -1,9 +1,10 @@
--- The text of a number that is stored in one word, assembled from its sign, its whole part and its fraction.
+-- The text of a number that is stored in one word, assembled from its sign, whole part and
+-- fraction.
 use Rattle.std.specs.Prelude.{ℕ, zero, suc, ◌+◌, ◌/◌, ◌%◌, Bool, List, [], ◌∷◌, ◌++◌}
 use Rattle.std.specs.Fmt.{decimal}
 use Rattle.ijson_number.specs.Text.{minus_text}
 
--- the last `count` digits of a number, with leading zeros if it has fewer
+-- The last `count` digits of `n` in ASCII, with leading zeros if `n` has fewer digits.
 unfoldable pub last_digits : (count n : ℕ) → List ℕ
 last_digits zero n = []
 last_digits (suc count) n = last_digits count (n / 10) ++ (48 + n % 10) ∷ []

@@ -1,4 +1,5 @@
--- The number of leading '0' lanes, not counting the last lane.
+-- Holds if the first `count` of 16 lanes are `'0'` and the next lane is not. The last lane is not
+-- counted.
 use Rattle.std.specs.Prelude.{◌≡◌, ◌≢◌, ℕ, ◌<◌, ◌≤◌, List, get_or, replicate, take}
 
 pub record IsZerosInFront (lanes : List ℕ) (count : ℕ) : Type 0 where

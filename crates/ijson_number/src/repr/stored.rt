@@ -1,4 +1,5 @@
-//! The parts of a stored number: a word, digits in a block or a list, and the canonical digits of each.
+//! Stored numbers: a word, digits in a block, or digits in a list, and the canonical digits of
+//! each.
 ghost use Rattle.std.specs.Prelude.{◌≡◌, ◌%◌, ◌^◌, ◌<◌, ◌≤◌, ◌≤ℤ◌, nat_abs, true, false, pos, negsuc, IsTrue, ◌+◌, ◌-◌, ◌++◌, drop, length, OnOk};
 ghost use Rattle.std.specs.Prelude.{neg_ℤ, ◌+ℤ◌, ◌<ℤ◌, FitsSigned, IsFalse};
 ghost use Rattle.std.proofs.Props.{props};
@@ -23,20 +24,25 @@ use itoa::write_digits;
 use std::alloc::AllocError;
 use std::simd::prelude::*;
 
-/// Bits 8 to 63 are the mantissa in two's complement, bits 4 to 7 the exponent plus 7, or 15 for a number without a
-/// decimal point, and bits 0 to 3 the value 8.
+/// A packed number in one word.
+///
+/// | Bits | Content |
+/// |---|---|
+/// | 8 to 63 | the mantissa in two's complement |
+/// | 4 to 7 | the exponent plus 7, or 15 for a number without a decimal point |
+/// | 0 to 3 | the value 8 |
 #[derive(Clone, Copy)]
 pub struct Word {
     pub bits: u64,
 }
 
-/// Bits 4 to 7 of a number without a decimal point.
+/// The value of bits 4 to 7 for a number without a decimal point.
 const NO_POINT: u64 = 15;
 
 /// One past the maximum mantissa of a packed number.
 pub const PACKED_END: i64 = 1 << 55;
 
-/// Returns `true` if a mantissa fits a packed number.
+/// Returns `true` if the mantissa fits a packed number.
 pub fn is_packed_mantissa(mantissa: i128) -> bool
     ensures { result ≡ fits_packed mantissa }
 {
@@ -94,7 +100,7 @@ impl Word {
         self.bits.cast_signed() >> 8
     }
 
-    /// Returns bits 4 to 7.
+    /// Returns the value of bits 4 to 7.
     fn code(self) -> u64
         ensures { result ≡ word_code self.bits }
     {
@@ -117,16 +123,16 @@ impl Word {
     }
 }
 
-/// The number of decimal digits that always fit a `u64`.
+/// The maximum number of decimal digits for which every integer fits a `u64`.
 pub const WORD_DIGITS: usize = 19;
 
-/// One past the largest number of `WORD_DIGITS` digits.
+/// One past the largest integer of `WORD_DIGITS` digits.
 pub const DIGITS_END: u64 = 10_000_000_000_000_000_000;
 
 /// The maximum number of decimal digits of a `u64`.
 pub const MAX_DIGITS: usize = 20;
 
-/// Converts the bytes of a text from ASCII digits to their values; bytes below `'0'` become 0.
+/// Writes the values of the ASCII digits in `text` to `buffer`. Bytes below `'0'` become 0.
 #[inline(always)]
 pub fn make_digits(text: &[u8], buffer: &mut [u8])
     requires { length buffer.old ≡ length text.now }
@@ -137,7 +143,7 @@ pub fn make_digits(text: &[u8], buffer: &mut [u8])
     }
 }
 
-/// Up to 19 digits, at the end of their buffer, after zeros.
+/// Up to 19 digits, stored at the end of a buffer after zeros.
 #[derive(Clone, Copy, Drop)]
 pub struct ShortDigits {
     count: u8,
@@ -148,9 +154,10 @@ pub struct ShortDigits {
 impl ShortDigits {
     ghost use Rattle.ijson_number.specs.private.ShortDigits.{short_digits};
 
-    /// Returns the digits of a number that is not zero.
+    /// Returns the digits of a nonzero number.
     ///
-    /// Each path has a buffer of its own: a shared one would be written to memory in parts and read back, which stalls the processor.
+    /// Each branch has its own buffer. A shared buffer would be written to memory in parts and read
+    /// back, which stalls the processor.
     #[inline(always)]
     pub fn of_number(number: u64) -> ShortDigits
         requires some { 0 < number }
@@ -163,7 +170,7 @@ impl ShortDigits {
         ShortDigits::of_wide(number)
     }
 
-    /// Returns the digits of a number of at most 16 digits that is not zero.
+    /// Returns the digits of a nonzero number of at most 16 digits.
     #[inline(always)]
     fn of_row(number: u64) -> ShortDigits
         requires some { 0 < number }
@@ -199,7 +206,9 @@ impl ShortDigits {
         }
     }
 
-    /// Returns the text of the last 16 digits, which ends with all digits if there are no more.
+    /// Returns the last 16 digits in ASCII.
+    ///
+    /// If there are at most 16 digits, the vector ends with all of them, after zeros.
     #[inline(always)]
     pub fn lanes(&self) -> u8x16
         ensures all { length result ≡ 16 }
@@ -218,7 +227,7 @@ impl ShortDigits {
     }
 }
 
-/// Appends the values of the digits of a text.
+/// Appends the values of ASCII digits to `digits`.
 pub fn push_values(digits: &mut Vec<u8>, text: &[u8]) -> Result<(), AllocError>
     requires { AllDigits text.now }
     ensures { OnOk result (digits.new.items ≡ digits.old.items ++ digits_from_text text.now) }
@@ -229,7 +238,7 @@ pub fn push_values(digits: &mut Vec<u8>, text: &[u8]) -> Result<(), AllocError>
     Ok(())
 }
 
-/// Returns the position of the decimal point after the start of the digits.
+/// Returns the position of the decimal point relative to the first digit.
 pub fn place_of(digits: &[u8], exponent: i32) -> i128
     ensures value { result ≡ pos (length digits.now) +ℤ exponent }
     ensures low { neg_ℤ (pos (2 ^ 70)) <ℤ result }
@@ -239,7 +248,7 @@ pub fn place_of(digits: &[u8], exponent: i32) -> i128
     digits.len() as i128 + exponent as i128
 }
 
-/// A number of at most 19 canonical digits, whose exponent fits 16 bits.
+/// A number of at most 19 canonical digits whose exponent fits 16 bits.
 #[derive(Clone, Copy, Drop)]
 pub struct ShortNumber {
     pub exponent: i16,
@@ -251,7 +260,7 @@ pub struct ShortNumber {
 
 const _: () = prove!(size_of::<ShortNumber>() == 24);
 
-/// Any other number whose canonical digits are stored.
+/// A number with more than 19 canonical digits, or an exponent that does not fit 16 bits.
 #[derive(Drop)]
 pub struct LongNumber {
     pub exponent: i32,
@@ -262,7 +271,7 @@ pub struct LongNumber {
     ghost many: { FitsSigned w16 exponent → 19 < length digits.items } by { Prim.hlevel props },
 }
 
-/// The representation of a number; the words are stored next to the tag.
+/// The representation of a number. Words are stored inline, next to the tag.
 #[derive(Drop)]
 pub enum Stored {
     Packed(Word),
@@ -275,7 +284,7 @@ pub enum Stored {
 impl Stored {
     ghost use Rattle.ijson_number.specs.private.Stored.{IsList};
 
-    /// Returns `true` if both are the same word.
+    /// Returns `true` if both numbers are stored as the same word.
     pub fn is_same_word(&self, other: &Stored) -> bool
         ensures same { IsTrue result → self.now ≡ other.now }
         ensures word { IsFalse result → self.now ≡ other.now → IsList self.now }
@@ -289,9 +298,9 @@ impl Stored {
     }
 }
 
-/// The sign, the canonical digits, the exponent and the decimal point of a number.
+/// The sign, the canonical digits and the exponent of a number, and whether it has a decimal point.
 ///
-/// The digits are borrowed from the number, or from a buffer.
+/// The digits are borrowed from the number or from a buffer.
 #[derive(Clone, Copy)]
 pub struct StrippedNumber<'a> {
     pub negative: bool,
@@ -305,9 +314,9 @@ pub struct StrippedNumber<'a> {
 impl<'a> StrippedNumber<'a> {
     ghost use Rattle.ijson_number.specs.private.StrippedNumber.{decimal_of};
 
-    /// Returns `magnitude * 10^exponent`, negated if `negative`, with canonical digits.
+    /// Returns `magnitude * 10 ^ exponent`, negated if `negative`, with canonical digits.
     ///
-    /// Writes the digits as text, four at a time, and then their values to `buffer`.
+    /// Writes the digits in ASCII, four at a time, and then their values to `buffer`.
     pub fn from_magnitude(
         negative: bool,
         magnitude: u64,
@@ -363,7 +372,7 @@ impl ShortNumber {
     ghost use Rattle.ijson_number.specs.private.ShortDigits.{short_digits};
     ghost use Rattle.ijson_number.specs.private.StrippedNumber.{decimal_of};
 
-    /// Returns the number by its canonical digits.
+    /// Returns the number with its canonical digits.
     pub fn stripped(&self) -> StrippedNumber<'_>
         requires { IsNum
             (stored_number self.now.negative (short_digits self.now.digits) self.now.exponent self.now.point) }
@@ -384,7 +393,7 @@ impl ShortNumber {
 impl LongNumber {
     ghost use Rattle.ijson_number.specs.private.StrippedNumber.{decimal_of};
 
-    /// Returns the number by its canonical digits.
+    /// Returns the number with its canonical digits.
     pub fn stripped(&self) -> StrippedNumber<'_>
         requires { IsNum
             (stored_number self.now.negative self.now.digits.items self.now.exponent self.now.point) }

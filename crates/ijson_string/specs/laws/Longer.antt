@@ -1,4 +1,4 @@
--- A set of strings that are longer than `least` bytes.
+-- `AreLonger least` holds if each string of the set is longer than `least` bytes.
 use Rattle.std.specs.Prelude.{◌≡◌, ◌<◌, ℕ, List, true, false, ◌||◌, length, ltb, if◌then◌else◌}
 use Rattle.std.proofs.Common.{◌∙◌, sym, subst, refl, ltb-true}
 use Rattle.std.specs.Ordering.{nat_cmp, eq_by_cmp}
@@ -11,7 +11,7 @@ use Rattle.std.specs.FinMap.{slice_cmp-IsAntisymmetric, nat_cmp-IsAntisymmetric}
 abbrev pub AreLonger : ℕ → set.FinSet (slice_cmp nat_cmp) → Type 0
 AreLonger least texts = (text : List ℕ) → set.contains texts text ≡ true → least < length text
 
--- adding a longer string keeps `AreLonger`
+-- Adding a string longer than `least` keeps `AreLonger least`.
 pub longer_insert : (least : ℕ) (texts : set.FinSet (slice_cmp nat_cmp)) (text : List ℕ) → AreLonger least texts → least < length text
     → AreLonger least (set.insert texts text)
 longer_insert least texts text all long q present =
@@ -23,7 +23,7 @@ longer_insert least texts text all long q present =
       | false ↦ λ _ here. all q here
     ] refl (sym (set.contains-insert nat_list_cmp_total texts text q) ∙ present)
 
--- adding a string only if it is longer keeps `AreLonger`
+-- Adding a string only if it is longer than `least` keeps `AreLonger least`.
 pub longer_with : (least : ℕ) (texts : set.FinSet (slice_cmp nat_cmp)) (text : List ℕ) → AreLonger least texts
     → AreLonger least (if ltb least (length text) then set.insert texts text else texts)
 longer_with least texts text all =
@@ -33,6 +33,6 @@ longer_with least texts text all =
       | false ↦ λ _. all
     ] refl
 
--- the empty set
+-- The empty set satisfies `AreLonger least`.
 pub longer_empty : (least : ℕ) → AreLonger least set.empty
 longer_empty least q present = absurd (false≢true (sym (set.contains-empty (slice_cmp nat_cmp) q) ∙ present))

@@ -1,4 +1,4 @@
--- `AreLong` is a proposition; the code of `Texts`; and when two `Texts` are equal.
+-- Two `Texts` are equal if their sets are equal, because two proofs of `AreLong` are equal.
 use Rattle.std.specs.Prelude.{◌≡◌, refl}
 use Rattle.std.specs.Coded.{Coded, code_by, coded_list, coded_ℕ, le_prop, Π_prop, →_prop}
 use Rattle.std.specs.Ordering.{nat_cmp}
@@ -20,6 +20,6 @@ texts_code =
     code_by Parts (coded_sub (set.code (coded_list coded_ℕ)) AreLong AreLong-prop)
     (λ c. (c.texts, c.long)) (λ p. record { texts = p.0; long = p.1 }) (λ _. refl)
 
--- equal sets make equal `Texts`
+-- If the sets of `a` and `b` are equal, then `a` and `b` are equal.
 pub texts_same : (a b : Texts) → a.texts ≡ b.texts → a ≡ b
 texts_same a b e = ap (λ (p : Parts). let c : Texts = record { texts = p.0; long = p.1 } in c) (Σ_prop_path AreLong-prop e)

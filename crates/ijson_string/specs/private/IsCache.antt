@@ -1,4 +1,5 @@
--- The invariant of a cache: each string once, with its hash.
+-- The invariant `IsCache`: each key has the hash of its string, and no string occurs twice.
+-- `set_of` is the set of the strings of all keys.
 use Rattle.std.specs.Prelude.{◌≡◌, ℕ, List, length}
 use Rattle.std.specs.Ordering.{nat_cmp}
 use Rattle.std.specs.Cmp.Lexicographic.{slice_cmp}

@@ -1,4 +1,4 @@
--- The keys of a cache: strings with their hashes of 32 bits.
+-- The keys of a cache: strings with their 32-bit hashes.
 use Rattle.std.specs.Prelude.{◌≡◌, ◌&&◌, ◌<◌, ℕ, Bool, List, [], ◌∷◌, get_or, length, map, nat_eq}
 use Rattle.std.specs.List.{AllByRecursion}
 use Rattle.std.specs.Str.{bytes_eq}
@@ -8,7 +8,7 @@ pub record Key : Type 0 where
   pub hash : ℕ
   pub text : List ℕ
 
--- each string with the hash at its index
+-- The keys of two lists: each string with the hash at the same index.
 abbrev pub keys_of : List ℕ → List (List ℕ) → List Key
 keys_of [] texts = []
 keys_of (hash ∷ hashes) [] = []
@@ -17,26 +17,26 @@ keys_of (hash ∷ hashes) (text ∷ texts) = record { hash = hash; text = text }
 abbrev pub texts_of : List Key → List (List ℕ)
 texts_of keys = map (λ k. k.text) keys
 
--- the bucket of each hash among `count`
+-- The buckets that the hashes select among `count` buckets.
 abbrev pub buckets_of : ℕ → List ℕ → List ℕ
 buckets_of count hashes = map (bucket_of count) hashes
 
--- whether a key has this hash and this string
+-- Returns `true` if a key has this hash and this string.
 abbrev pub is_key : ℕ → List ℕ → Key → Bool
 is_key hash text k = nat_eq hash k.hash && bytes_eq text k.text
 
--- the default of reads past the end
+-- The default that reading past the end of a list of keys returns.
 abbrev pub no_key : Key
 no_key = record { hash = 0; text = [] }
 
--- the key at this index has this hash and this string
+-- Holds if the key at index `at` has this hash and this string.
 abbrev pub IsKeyAt : ℕ → List ℕ → List Key → ℕ → Type 0
 IsKeyAt hash text keys at = (at < length keys) × (get_or keys at no_key ≡ record { hash = hash; text = text })
 
--- the key at this index has this string
+-- Holds if the key at index `at` has this string.
 abbrev pub IsTextAt : List ℕ → List Key → ℕ → Type 0
 IsTextAt text keys at = (at < length keys) × ((get_or keys at no_key).text ≡ text)
 
--- each key has the hash of its string
+-- Holds if each key has the mixed hash of its string.
 abbrev pub AreHashed : (List ℕ → ℕ) → List Key → Type 0
 AreHashed text_hash keys = AllByRecursion (λ k. k.hash ≡ mixed (text_hash k.text)) keys

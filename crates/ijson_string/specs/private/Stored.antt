@@ -12,7 +12,7 @@ stored_bytes (UpTo55 text) = rc_value text
 stored_bytes (UpTo71 text) = rc_value text
 stored_bytes (Long text) = rc_str_bytes text
 
--- inline if and only if it has up to 7 bytes
+-- Holds if the string has up to 7 bytes and is stored inline, or is longer and is not.
 abbrev pub IsStoredByLength : Stored → Type 0
 IsStoredByLength (InPlace text) = length text ≤ 7
 IsStoredByLength stored = 7 < length (stored_bytes stored)

@@ -1,20 +1,21 @@
--- The value of a `TextTable`, and how it grows.
+-- The value of a `TextTable`, and the number of buckets as it grows.
 use Rattle.std.specs.Prelude.{ℕ, ◌*◌, List, [], max, nat_lt, if◌then◌else◌}
 use Rattle.ijson_string.specs.declared.table.followers.Followers.{Followers}
 use Rattle.ijson_string.specs.private.Followers.{no_followers}
 use Rattle.ijson_string.specs.private.Keys.{Key}
 
--- the keys in insertion order, the number of buckets, and which string followed which
+-- The value of a `TextTable`: its keys in insertion order, its number of buckets, and its
+-- followers.
 pub record Table : Type 0 where
   pub keys : List Key
   pub buckets : ℕ
   pub followers : Followers
 
--- the empty table, which has allocated nothing
+-- The empty table, which has not allocated.
 abbrev pub no_table : Table
 no_table = record { keys = []; buckets = 0; followers = no_followers }
 
--- the number of buckets before a string is added: `buckets` if there are fewer than four strings per bucket, otherwise `2 * buckets`,
--- at least 16
+-- The number of buckets before a string is added to `texts` strings: `buckets` if there are fewer
+-- than four strings per bucket, otherwise twice as many, at least 16.
 abbrev pub buckets_for : ℕ → ℕ → ℕ
 buckets_for texts buckets = if nat_lt texts (4 * buckets) then buckets else max 16 (2 * buckets)

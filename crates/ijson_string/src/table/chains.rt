@@ -1,4 +1,5 @@
-//! The chains of a table: from each bucket to its newest string, and from each string to the next older one.
+//! The chains of a table: each bucket links to its newest string, and each string to the next older
+//! string.
 ghost use Rattle.std.specs.Prelude.{◌≡◌, ◌*◌, ◌<◌, ◌≤◌, ◌^◌, length, get_or, IfSome, IfNone, OnOk, OnErr, true, false};
 ghost use Rattle.ijson_string.specs.private.Chains.{bucket_of};
 ghost use Rattle.ijson_string.specs.private.Filters.{filter_of, passes};
@@ -8,13 +9,13 @@ ghost use Rattle.ijson_string.specs.private.Table.{buckets_for};
 use std::alloc::AllocError;
 use std::mem::size_of;
 
-/// The number of buckets of the smallest table that has a string.
+/// The minimum number of buckets of a table that contains a string.
 const MIN_BUCKETS: usize = 16;
 
-/// The number of strings for each bucket at which the buckets double.
+/// The average number of strings per bucket at which the buckets double.
 const TEXTS_PER_BUCKET: usize = 4;
 
-/// The hash of a string, and the next older string in its bucket.
+/// The hash of a string, and a link to the next older string in its bucket.
 #[derive(Clone, Copy, Drop)]
 pub(crate) struct Link {
     pub(crate) hash: u32,
@@ -26,25 +27,26 @@ const _: () = prove!(size_of::<Link>() == 8);
 
 /// A bucket: the head of its chain, and a filter of the hashes in it.
 ///
-/// Both are in one word, so that a lookup of an absent string waits for memory once.
+/// Both are in one word, so that the lookup of an absent string waits for memory only once.
 #[derive(Clone, Copy, Drop)]
 pub(crate) struct Bucket {
     /// The index of a link plus 1, or 0 if the chain is empty.
     head: u32,
-    /// A Bloom filter: up to three bits for each hash.
+    /// A Bloom filter with up to three bits for each hash.
     filter: u32,
 }
 
 const _: () = prove!(size_of::<Bucket>() == 8);
 
-/// A bucket with no string.
+/// A bucket without strings.
 pub(crate) const EMPTY: Bucket = Bucket { head: 0, filter: 0 };
 
-/// Doubles the buckets and rebuilds the chains, if there are four strings for each bucket. No string is hashed or read.
+/// Doubles the buckets and rebuilds the chains if there are four strings per bucket. Does not hash
+/// or read any string.
 ///
 /// # Errors
 ///
-/// If an allocation fails. Links and buckets are then unchanged.
+/// Fails if an allocation fails. Links and buckets are then unchanged.
 pub(crate) fn grow(links: &mut Vec<Link>, buckets: &mut Vec<Bucket>) -> Result<(), AllocError>
     requires table { IsTable links.old.items buckets.old.items }
     requires few { length links.old.items < 2 ^ 32 }
@@ -67,7 +69,9 @@ pub(crate) fn grow(links: &mut Vec<Link>, buckets: &mut Vec<Bucket>) -> Result<(
     }
     Ok(())
 }
-/// Makes the string at index `head - 1` the head of its chain, adds its hash to the filter, and returns the old head.
+/// Makes the string at index `head - 1` the head of its chain, and returns the old head.
+///
+/// Adds `hash` to the filter of the bucket.
 pub(crate) fn prepend(buckets: &mut Vec<Bucket>, hash: u32, head: u32) -> u32
     requires some { 0 < length buckets.old.items }
     requires bounded { length buckets.old.items ≤ 2 ^ 32 }
@@ -83,10 +87,10 @@ pub(crate) fn prepend(buckets: &mut Vec<Bucket>, hash: u32, head: u32) -> u32
     before.head
 }
 
-/// Returns the head of the chain of `hash`, if the filter of its bucket lets the hash pass.
+/// Returns the head of the chain of `hash`, or `None` if the filter of its bucket rules `hash` out.
 ///
-/// Only the filter is tested: whether the chain is empty, the branch predictor cannot predict. Not inlined, since in `find` the
-/// compiler tests first whether the chain is empty.
+/// Only the filter is tested, because the branch predictor cannot predict whether a chain is empty.
+/// Not inlined, because in `find` the compiler would test first whether the chain is empty.
 #[inline(never)]
 pub(crate) fn head_for(buckets: &[Bucket], hash: u32) -> Option<u32>
     requires some { 0 < length buckets.now }
@@ -103,9 +107,9 @@ pub(crate) fn head_for(buckets: &[Bucket], hash: u32) -> Option<u32>
     Some(head)
 }
 
-/// Returns the bucket of a hash among `count`, by a product instead of a division.
+/// Returns the bucket of `hash` among `count`, by a multiplication instead of a division.
 ///
-/// When the buckets double, each splits into two adjacent ones.
+/// When the buckets double, each bucket splits into two adjacent buckets.
 #[tactic(auto, unfolding(crate::specs::private::Chains::bucket_of))]
 fn bucket_index(hash: u32, count: usize) -> usize
     requires some { 0 < count }
@@ -116,9 +120,9 @@ fn bucket_index(hash: u32, count: usize) -> usize
     ((u64::from(hash) * count as u64) >> 32) as usize
 }
 
-/// Returns the mask of up to three bits that a hash sets in the filter of its bucket.
+/// Returns the mask of up to three bits that `hash` sets in the filter of its bucket.
 ///
-/// The lower 15 bits of the hash select them; its upper bits select the bucket.
+/// The lower 15 bits of the hash select these bits, and its upper bits select the bucket.
 #[tactic(auto, unfolding(crate::specs::private::Filters::filter_of))]
 fn filter_bits(hash: u32) -> u32
     ensures { result ≡ filter_of hash }

@@ -1,40 +1,42 @@
-//! `Followers`: which string followed which.
+//! `Followers`: a prediction of the next string, from which string followed which.
 ghost use Rattle.std.specs.Prelude.{◌≡◌, ℕ};
 ghost use Rattle.ijson_string.specs.private.Followers.{followed_by, no_followers};
 
 /// The number of slots.
 const FOLLOWER_SLOTS: usize = 128;
 
-/// The index of a string, and its length, or `u32::MAX` if it is longer.
+/// The index of a string, and its length, capped at `u32::MAX`.
 #[derive(Clone, Copy, Drop)]
 pub(super) struct Follower {
     pub(super) position: u32,
     pub(super) len: u32,
 }
 
-/// The content of a slot that was never written. No string of a table has this length.
+/// The content of a slot that was never written. No string of a table has length 0.
 const NONE: Follower = Follower {
     position: 0,
     len: 0,
 };
 
-/// Which string followed which, among those that repeat.
+/// Predicts the next string from which string followed which, among strings that repeat.
 ///
-/// The slot of an index is its remainder by the number of slots. It has the string that was last found after a string of this slot.
-/// That is a guess, since it stays when the strings are removed: a lookup compares the string, and no result depends on it. New
-/// strings change no slot, so that values between keys leave the order of the keys. The slots take 1 KB, inline, so that a small cache
-/// has them without an allocation.
+/// The string at index `i` uses slot `i % FOLLOWER_SLOTS`. A slot stores the string that was last
+/// found after a string of this slot. The content is only a prediction and can be outdated: a
+/// lookup compares the string, and no result depends on the slots. New strings do not change a
+/// slot, so that unique values between repeating keys do not disturb the prediction.
+///
+/// The slots take 1 KB, inline, so that a small cache needs no allocation for them.
 #[derive(Drop)]
 pub(crate) struct Followers {
     slots: [Follower; FOLLOWER_SLOTS],
-    /// The index of the current string: the string that was found last.
+    /// The index of the current string, which is the string that was found last.
     last: u32,
-    /// The content of the slot of `last`: the guess for the next string.
+    /// The content of the slot of `last`, which predicts the next string.
     pub(super) next: Follower,
 }
 
 impl Followers {
-    /// Creates the state in which no string follows another.
+    /// Creates a state without predictions.
     pub(crate) fn new() -> Followers
         ensures { result ≡ no_followers }
     {
@@ -45,7 +47,9 @@ impl Followers {
         }
     }
 
-    /// Records that the string at `position`, of length `len`, follows the current one, and makes it the current one.
+    /// Records that the string at `position` follows the current string, and makes it current.
+    ///
+    /// `len` is the length of the string at `position`.
     pub(crate) fn put(&mut self, position: u32, len: usize)
         ensures { self.new ≡ followed_by position len self.old }
     {

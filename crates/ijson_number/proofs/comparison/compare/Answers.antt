@@ -9,7 +9,7 @@ returns-then-ne-clause-order g c =
     c.cmp.ensures ∙ signs_cmp a b c.sign-sign.result c.sign-other_sign.result c.sign-sign.ensures c.sign-other_sign.ensures
     (tests_apart c.sign-sign.result c.sign-other_sign.result c.ne.result c.ne.ensures c.if-ne.true)
 
--- after the test the two signs are equal
+-- After the test `sign != other_sign` has failed, the two signs are equal.
 pub returns-in-Less-clause-order : goal.returns-in-Less-clause-order
 returns-in-Less-clause-order g c =
     c.compare_magnitudes.ensures.order ∙ below_zero_is (g.D.DigitRow.num c.args.a.now) (g.D.DigitRow.num c.args.b.now) _ _

@@ -1,7 +1,7 @@
 use Rattle.ijson_number.proofs.Common.{◌≡◌, ◌+◌, ◌*◌, drop, slice_cmp, nat_cmp, stripped_digits}
 use Rattle.ijson_number.proofs.comparison.compare_digits.Given as goal
 
--- the digits so far are equal
+-- Loop invariant: the digits before index `at` are equal, and two inspections were made for each.
 abbrev pub invariant-loop-at : goal.invariant-loop-at
 invariant-loop-at g l = record {
   looks : l.looks ≡ l.initial.looks + 2 * l.at;

@@ -6,7 +6,8 @@ use Rattle.ijson_number.proofs.comparing.NumberOrder.{some_digits, are_stripped}
 use Rattle.ijson_number.proofs.comparing.MagnitudeOrder.{same_place_cmp, places_cmp}
 use Rattle.ijson_number.proofs.comparison.compare_magnitudes.Goals as goal
 
--- two numbers that are not zero, and their leading places
+-- In this module, `a` and `b` are nonzero numbers, and `x` and `y` are the positions of their
+-- decimal points.
 module _ (a b : Num) (some : a.decimal.mantissa ≢ pos 0) (some_other : b.decimal.mantissa ≢ pos 0) (x y : ℤ)
     (place : x ≡ leading_place a.decimal) (other_place : y ≡ leading_place b.decimal) where
   digits_decide : x ≡ y → slice_cmp nat_cmp (stripped_digits a.decimal) (stripped_digits b.decimal) ≡ magnitude_cmp a.decimal b.decimal

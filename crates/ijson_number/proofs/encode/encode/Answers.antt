@@ -3,7 +3,7 @@ use Rattle.ijson_number.proofs.storing.Significands.{fewer_tens, integer_form_is
 use Rattle.ijson_number.proofs.encode.encode.Goals.{After-strip_trailing_zeros-stripped}
 use Rattle.ijson_number.proofs.encode.encode.Goals as goal
 
--- the number is unchanged
+-- Stripping trailing zeros keeps the number that the significand denotes.
 same : (c : After-strip_trailing_zeros-stripped) → significand_number c.strip_trailing_zeros-stripped.result ≡ significand_number c.args.significand
 same c =
     let e = c.strip_trailing_zeros-stripped.ensures in

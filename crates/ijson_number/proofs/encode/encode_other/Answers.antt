@@ -15,7 +15,7 @@ word-requires c = subst IsPlain (sym (number c)) c.requires.small.num.plain
 pub returns-in-Some-clause-form : goal.returns-in-Some-clause-form
 returns-in-Some-clause-form c = c.in-Some.ensures.word ∙ ap form_of (number (goal.at.returns-in-Some-clause-form c).After-canonical-canonical)
 
--- the form of a number with eight or more fraction digits
+-- A number with eight or more fraction digits is stored as a list of digits.
 deep : (c : Then-exponent-ltminus7) → let n = significand_of c.args.negative c.args.magnitude c.args.exponent c.args.point in
     form_of (significand_number n) ≡ digits_form (canonical_number n)
 deep c =

@@ -8,7 +8,8 @@ use Rattle.ijson_number.proofs.storing.FormCases.{long_form}
 use Rattle.ijson_number.proofs.storing.Significands.{encoded}
 use Rattle.ijson_number.proofs.encode.encode_spelling.Goals as goal
 
--- the magnitude is the value of the digits
+-- If a significand and a spelling denote the same number, the magnitude is the value of the spelled
+-- digits.
 magnitude_is : (s : Significand) (t : CanonicalSpelling) → canonical_number s ≡ spelled_number t → s.magnitude ≡ value (t.front.now ++ t.back.now)
 magnitude_is s t is =
     sym (abs_signed s.negative s.magnitude) ∙ ap (λ (n : Decimal). nat_abs n.mantissa) is

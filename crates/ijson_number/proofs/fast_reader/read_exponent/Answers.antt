@@ -7,16 +7,16 @@ use Rattle.ijson_number.proofs.fast_reader.read_exponent.Goals.{then-count-eq0-v
 use Rattle.ijson_number.proofs.fast_reader.read_exponent.Goals.{then-count-eq0-via-else-count-eq0+then-continues_token}
 use Rattle.ijson_number.proofs.fast_reader.read_exponent.Goals as goal
 
--- the digits read are few
+-- The number that `take_digits` returns is below `10 ^ 4`.
 small : (c : After-take_digits-magnitude) → c.take_digits-magnitude.result.0 < 10 ^ 4
 small c = let t = c.take_digits-magnitude in digits_few c.split_exponent_sign-negative.result.1.now t.result.0 t.result.1 t.ensures
 
--- and follow the sign
+-- `split_exponent_sign` splits the sign off the bytes after the letter `e` or `E`.
 sign : (c : After-take_digits-magnitude) → IsExponentSignTaken (drop 1 c.args.bytes.now) c.split_exponent_sign-negative.result.0
     c.split_exponent_sign-negative.result.1.now
 sign c = rw (take_rest c.args.bytes.now 1) at c.split_exponent_sign-negative.ensures
 
--- if an exponent is present, they are all its digits
+-- If `bytes` begins with an exponent of at most four digits, `take_digits` reads all of its digits.
 all_taken : (c : After-take_digits-magnitude) (rest : List ℕ) → IsExponentTail c.args.bytes.now rest
     → (EndsToken c.args.bytes.now → ⊥) → let t = c.take_digits-magnitude in (0 < t.result.1) × (drop t.result.1 c.split_exponent_sign-negative.result.1.now ≡ rest)
 all_taken c rest p on =
@@ -30,7 +30,7 @@ overflow_cast-magnitude c = let few = small (goal.at.overflow_cast-magnitude c).
 pub overflow_sub-power : goal.overflow_sub-power
 overflow_sub-power c = let few = small (goal.at.overflow_sub-power c).After-take_digits-magnitude in omega (arith, ints)
 
--- the letter that was read continues the token
+-- `EndsToken` does not hold for the bytes, because they begin with the letter `e` or `E`.
 on : (c : After-take_digits-magnitude) → EndsToken c.args.bytes.now → ⊥
 on c = letter_continues c.args.bytes.now (grind arith) (grind (arith, common_steps))
 

@@ -50,7 +50,8 @@ returns-clause-found c =
       no_point = tail.no_point;
     }
 
--- the whole part consists of the leading digits,
+-- If the fast reader accepts the number at the start of `text`, the leading digits after the sign
+-- are the whole part of the number.
 taken : (c : After-split_at) (p : Parts) (rest : List ℕ) (f : IsCommonFront c.args.text.now p rest)
     → (c.split_at.result.0.now ≡ p.whole) × (c.split_at.result.1.now ≡ f.fraction_text ++ f.after)
 taken c p rest f =
@@ -58,7 +59,8 @@ taken c p rest f =
     let s = c.split_at.ensures in
     whole_taken c.args.text.now _ _ _ _ p rest _ c.split_sign-negative.ensures s.front s.back s.front_len t.digits t.all f
 
--- the fraction has few digits
+-- If the fast reader accepts the number at the start of `text`, an optional fraction of few digits
+-- follows its whole part.
 tail : (c : After-split_at) (p : Parts) (rest : List ℕ) (f : IsCommonFront c.args.text.now p rest)
     → IsFewFraction c.take_lanes-number.result.0 c.take_lanes-number.result.1 c.split_at.result.1.now f.fraction_text f.after
 tail c p rest f =

@@ -7,11 +7,11 @@ use Rattle.ijson_number.proofs.fast_reader.take_digits.Goals as goal
 digit_is : (b : ℕ) → is_ascii_digit b ≡ true → IsDigit b
 digit_is b h = (grind (arith, nat_tests), grind (arith, nat_tests))
 
--- the byte that was tested is a digit
+-- The byte for which `is_ascii_digit` returned `true` is a digit.
 digit : (c : Then-is_ascii_digit) → IsDigit (get_or c.args.bytes.now c.loop-count.count 0)
 digit c = digit_is (get_or c.args.bytes.now c.loop-count.count 0) (sym c.is_ascii_digit.ensures.value ∙ c.if-is_ascii_digit.true)
 
--- the number with it stays below a power of ten
+-- Appending the digit at index `count` keeps the number below `10 ^ 19`.
 small : (c : Then-is_ascii_digit) → c.loop-count.longer * 10 + (get_or c.args.bytes.now c.loop-count.count 0 - 48) < 10 ^ 19
 small c =
     let l = c.loop-count in

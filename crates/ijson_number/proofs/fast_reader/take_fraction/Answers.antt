@@ -7,13 +7,14 @@ use Rattle.ijson_number.proofs.parsing.CommonFronts.{point_tail, point_first}
 use Rattle.ijson_number.proofs.parsing.DigitRuns.{IsDigits_from}
 use Rattle.ijson_number.proofs.fast_reader.take_fraction.Goals as goal
 
--- a point, at most `most` digits after it, the text after them, and the number with the digits appended
+-- Holds if `bytes` is a point followed by `digits` and `rest`, and `longer` is `number` with the
+-- digits appended. There are at most `most` digits.
 record IsPointTaken (number : ℕ) (bytes : List ℕ) (most longer scale : ℕ) (digits rest : List ℕ) : Type 0 where
   text_is : bytes ≡ 46 ∷ (digits ++ rest)
   all_digits : AllDigits digits
   count : length digits ≡ scale
   few : length digits ≤ most
-  -- no digit follows, unless there are `most`
+  -- If there are fewer than `most` digits, no digit follows.
   ends : length digits < most → BeginsWithNoDigit rest
   value : longer ≡ number_from_digits_after 10 number (digits_from_text digits)
 
@@ -34,7 +35,7 @@ point_taken c =
       value = taken.ensures.value ∙ ap (λ (l : List ℕ). number_from_digits_after 10 c.args.number (digits_from_text l)) (sym split.front);
     }
 
--- the number with `most` more digits stays below 10^19
+-- Appending the maximum number of fraction digits keeps the number below `10 ^ 19`.
 room : (number count most : ℕ) → (number ≡ 0 → most ≡ 19) → (number ≢ 0 → most ≡ 19 - count) → (number + 1) * 10 ^ (19 - count) ≤ 10 ^ 19
     → (number + 1) * 10 ^ most ≤ 10 ^ 19
 room number count most zero others left = grind arith

@@ -37,7 +37,7 @@ returns-then-count-lt-LANES c =
     (row_taken c.args.number c.args.bytes.now c.args.most c.digit_count.result c.min-count.result (omega arith) c.digit_count.ensures
     c.min-count.ensures c.if-count-lt-LANES.true)
 
--- 16 digits were read
+-- In this module, `count` is at least 16, so all 16 bytes of the vector are digits.
 module _ (number : ℕ) (bytes : List ℕ) (most found count power read : ℕ) (buffer : 16 ≤ length bytes)
     (is : IsCount (chunk 0 16 bytes) found) (least : count ≡ min found most) (many : 16 ≤ count) (p : power ≡ 10 ^ count)
     (v : read ≡ value (take count (chunk 0 16 bytes))) where

@@ -5,7 +5,7 @@ use Rattle.ijson_number.proofs.general_reader.canonical_exponent.Goals.{After-wr
 use Rattle.ijson_number.proofs.general_reader.canonical_exponent.Goals.{then-exponent-via-else-exponent+then-exponent-gt-EXPONENT_LIMIT}
 use Rattle.ijson_number.proofs.general_reader.canonical_exponent.Goals as goal
 
--- no step of the sum overflows 128 bits
+-- Computing the exponent does not overflow 128 bits.
 sum_is : (negative : Bool) (v f t : ℕ) (w : ℤ) → f < 2 ^ 64 → t < 2 ^ 65 → w ≡ signed negative (min v (2 ^ 80))
     → to_z w128 (of_z w128 (to_z w128 (of_z w128 w) +ℤ to_z w128 (of_z w128 (to_z w128 t -ℤ to_z w128 f)))) ≡ w +ℤ (pos t -ℤ pos f)
 sum_is negative v f t w few many is =
@@ -13,7 +13,7 @@ sum_is negative v f t w few many is =
     let high : w ≤ℤ pos (2 ^ 80) = grind (arith, ints) in
     omega (arith, ints)
 
--- the value of the sum, with the number of fraction digits
+-- The computed exponent is the written exponent plus `tens` minus the number of fraction digits.
 sum_at : (c : After-written_exponent) → let w : ℤ = c.written_exponent.result in
     let tens = c.args.tens in
     let places = length c.args.tail.now.fraction.now in

@@ -5,7 +5,7 @@ use Rattle.ijson_number.proofs.lanes.number_of_lanes.Goals as goal
 pub dot4 : goal.dot4
 dot4 c = (pairs_fit c.args.digits c.requires.all c.requires.digits, tt)
 
--- the value of the lanes, from the numbers that were extracted from them
+-- The four numbers extracted from the vector combine to the value of its 16 digits.
 lanes : (xs : List ℕ) (a b c d : ℕ) → length xs ≡ 16 → AllBelowBase 10 xs → a ≡ lane xs 0 → b ≡ lane xs 1 → c ≡ lane xs 2 → d ≡ lane xs 3
     → ((a * 10000 + b) * 100000000 + (c * 10000 + d) < 10 ^ 16) × ((a * 10000 + b) * 100000000 + (c * 10000 + d) ≡ number_from_digits 10 xs)
 lanes xs a b c d long digits la lb lc ld =

@@ -3,7 +3,7 @@ use Rattle.ijson_number.proofs.Common.{arith, IsAscii, bool_byte, minus_text}
 use Rattle.ijson_number.proofs.writing.WrittenLanes.{filled, filled_is, minus_length, IsFront, front_all, front_is}
 use Rattle.ijson_number.proofs.lanes.push_rows.Goals as goal
 
--- the buffer with both vectors in it
+-- The buffer begins with the sign, the whole part, the point and the fraction.
 rows : (negative : Bool) (whole fraction : List ℕ) (start count scale first many more : ℕ)
     → (length whole ≡ 16) × IsAscii (drop start whole) → start + count ≤ 16
     → (length fraction ≡ 16) × IsAscii (drop (16 - scale) fraction) → scale ≤ 16 → first ≡ bool_byte negative → many ≡ 16

@@ -7,13 +7,14 @@ use Rattle.ijson_number.proofs.writing.LastDigits.{number_behind, some_zeros, ze
 use Rattle.ijson_number.proofs.lanes.push_short.Goals.{After-front_of}
 use Rattle.ijson_number.proofs.lanes.push_short.Goals as goal
 
--- a vector whose first lanes are a text
+-- Holds if the vector `lanes` is ASCII and its first `count` lanes are `text`.
 record IsVector (lanes : List ℕ) (count : ℕ) (text : List ℕ) : Type 0 where
   all : length lanes ≡ 16
   ascii : IsAscii lanes
   is_text : take count lanes ≡ text
 
--- the minus replaces the zero before a number
+-- The subtraction writes the minus sign of a negative number before its digits, in the lane of a
+-- leading zero.
 signed : (n : ℕ) → n < 10 ^ 15 → (lanes : List ℕ) → lanes ≡ last_digits 16 n → (zeros : ℕ) → IsZerosInFront lanes zeros
     → (negative : Bool) (one minus : ℕ) → one ≡ bool_byte negative → minus ≡ bool_byte negative
     → IsVector (zip2 less (drop (zeros - one) lanes ++ replicate (zeros - one) 0) (3 * minus ∷ replicate 15 0)) (16 - (zeros - one))

@@ -6,11 +6,12 @@ use Rattle.ijson_number.proofs.writing.LastDigits.{behind_point, but_first, fron
 use Rattle.ijson_number.proofs.writing.WrittenLanes.{digits_ascii}
 use Rattle.ijson_number.proofs.write_fast.push_decimal.Goals as goal
 
--- any part of a vector of digits is ASCII
+-- Any part of a vector of ASCII digits is ASCII.
 part : (n start : ℕ) (lanes : List ℕ) → lanes ≡ last_digits 16 n → (length lanes ≡ 16) × IsAscii (drop start lanes)
 part n start lanes is = rw is (last_count 16 n, IsAscii-drop (last_digits 16 n) start (digits_ascii 16 n))
 
--- the text of a number of more than 15 digits
+-- The text of a decimal of more than 15 digits is its leading digits followed by its last 15
+-- digits, with the point before the last `scale` digits.
 wide_text : (negative : Bool) (magnitude scale : ℕ) (lanes : List ℕ) → lanes ≡ last_digits 16 (magnitude % 10 ^ 15) → scale < 16
     → magnitude < 2 ^ 64 → 10 ^ 15 ≤ magnitude
     → (minus_text negative ++ decimal (magnitude / 10 ^ 15)) ++ (take (15 - scale) (drop 1 lanes) ++ 46 ∷ drop (16 - scale) lanes)

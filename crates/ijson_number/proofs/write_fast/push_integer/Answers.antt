@@ -6,7 +6,8 @@ use Rattle.ijson_number.proofs.writing.Beginnings.{all_or_none, failed, last_app
 use Rattle.ijson_number.proofs.writing.LastDigits.{but_first, full_row, wide_decimal, last_count}
 use Rattle.ijson_number.proofs.write_fast.push_integer.Goals as goal
 
--- the text of a number of more than 15 digits
+-- The text of an integer of more than 15 digits is its leading digits followed by its last 15
+-- digits.
 wide_text : (minus lanes : List ℕ) (magnitude : ℕ) → lanes ≡ last_digits 16 (magnitude % 10 ^ 15) → magnitude < 2 ^ 64 → 10 ^ 15 ≤ magnitude
     → (minus ++ decimal (magnitude / 10 ^ 15)) ++ take 15 (drop 1 lanes) ≡ minus ++ decimal magnitude
 wide_text minus lanes magnitude is word wide =
@@ -19,7 +20,7 @@ wide_text minus lanes magnitude is word wide =
       wide_decimal magnitude 0 (omega arith) word wide,
     ) refl
 
--- 16 digits fill a vector
+-- An integer of 16 digits fills a vector.
 full : (magnitude : ℕ) (lanes : List ℕ) → 10 ^ 15 ≤ magnitude → magnitude < 10 ^ 16 → lanes ≡ last_digits 16 magnitude
     → take 16 lanes ≡ decimal magnitude
 full magnitude lanes wide small is =

@@ -3,7 +3,7 @@ use Rattle.ijson_number.proofs.writing.WordTexts.{below_point, exponent_small, f
 use Rattle.ijson_number.proofs.write_fast.push_pointed.Goals.{After-from-scale}
 use Rattle.ijson_number.proofs.write_fast.push_pointed.Goals as goal
 
--- an exponent that is not 0 is negative
+-- An exponent that is neither 0 nor positive is negative.
 below : (c : After-from-scale) → c.args.exponent <ℤ pos 0
 below c = below_point c.args.exponent _ (to_z-of_z w8 c.args.exponent (search rules)) (λ z. c.if-exponent-eq0.false (ap (of_z w8) z))
     c.if-exponent-gt0.false

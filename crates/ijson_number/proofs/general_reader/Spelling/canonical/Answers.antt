@@ -7,7 +7,7 @@ use Rattle.ijson_number.proofs.general_reader.Spelling.canonical.Goals.{else-is_
 use Rattle.ijson_number.proofs.general_reader.Spelling.canonical.Goals.{else-is_empty-via-else-is_empty}
 use Rattle.ijson_number.proofs.general_reader.Spelling.canonical.Goals as goal
 
--- leading and trailing zeros are stripped
+-- `strip_front` and `strip_back` strip all leading and trailing zeros.
 taken : (c : After-strip_back) → let w = c.strip_front.result in let a = c.strip_back.result in
     ZerosTaken c.requires.spelled.0 (parts_of c.args.self.now) w.0.now w.1.now a.0.now a.1.now c.strip_front.ensures.zeros.0
     ((length w.0.now - length a.0.now) + (length w.1.now - length a.1.now))
@@ -19,7 +19,7 @@ taken c = record {
   last = c.strip_back.ensures.last;
 }
 
--- at least one digit is left
+-- If `canonical_exponent` is called, at least one digit remains after stripping.
 some : (c : After-canonical_exponent) → 0 < length (c.strip_back.result.0.now ++ c.strip_back.result.1.now)
 some c = rw length-append (elim c.else-is_empty.branch [
   | else-is_empty-via-then-is_empty+else-is_empty-2 w ↦ grind arith

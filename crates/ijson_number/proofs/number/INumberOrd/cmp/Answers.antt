@@ -2,7 +2,7 @@ use Rattle.ijson_number.proofs.Common.{◌<◌, ◌^◌, length, ap, arith, rule
 use Rattle.ijson_number.proofs.comparing.NumberOrder.{row_is}
 use Rattle.ijson_number.proofs.number.INumberOrd.cmp.Goals as goal
 
--- the number of inspections fits, since the number of digits does
+-- The count of inspections does not overflow, because the number of digits is below `2 ^ 64`.
 pub compare-requires : goal.compare-requires
 compare-requires c =
     let n = c.stripped-a.result in

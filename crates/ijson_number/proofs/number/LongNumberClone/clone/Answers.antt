@@ -3,7 +3,7 @@ use Rattle.std.proofs.lemmas.Slice.Zip.{AllZip-map}
 use Rattle.ijson_number.proofs.number.LongNumberClone.clone.Goals.{In_ok-digits}
 use Rattle.ijson_number.proofs.number.LongNumberClone.clone.Goals as goal
 
--- the copy has the digits
+-- The clone has the same digits as the original.
 same_digits : (c : In_ok-digits) → c.in_ok-digits.digits.items ≡ c.args.self.now.digits.items
 same_digits c = AllZip-map {A = ℕ} {B = ℕ} (λ x. x) _ _ c.in_ok-digits.ensures.cases.0 ∙ map-id c.args.self.now.digits.items
 

@@ -20,7 +20,7 @@ push_digits-requires-clause-lanes c =
     ∙ ap (λ (x : ShortNumber). short_digits x.digits) (c.deref.ensures ∙ sym c.deref-in-Short.ensures) in
     rw digits (c.lanes.ensures.lanes (rw (← digits) n.stripped.stripped.below_ten))
 
--- an integer is appended, whatever stores it
+-- The text that `push_integer` appends is the text of the number, however the integer is stored.
 shown : (c : After-push_integer) → integer_text c.match-self.negative.0 c.match-self.negative.1 ≡ num_text c.args.self.now.decimal
 shown c =
     let view = sym (ap (λ (x : Num). x.decimal) c.self.view_is) in
@@ -51,13 +51,14 @@ shown c =
 pub returns-clause-pushed : goal.returns-clause-pushed
 returns-clause-pushed c = rw (shown (goal.at.returns-clause-pushed c).After-push_integer) at c.push_integer.ensures
 
--- a number that is stored by its digits, if vectors write it
+-- If a number that is stored as a list of digits satisfies `IsRowText`, it satisfies
+-- `IsShortInRows`.
 by_digits : (n : Decimal) → is_digits (form_of n) ≡ true → IsRowText n → IsShortInRows n
 by_digits n kept (inl integer) = absurd (let none : false ≡ true = sym integer.in_word ∙ kept in cc)
 by_digits n kept (inr (inl packed)) = absurd (let none : false ≡ true = sym (ap is_digits packed.form) ∙ kept in cc)
 by_digits n kept (inr (inr short)) = short
 
--- the digits that are passed are those of the number
+-- The digits passed to `push_digits` are the canonical digits of the number.
 pub returns-in-Short-clause-rows : goal.returns-in-Short-clause-rows
 returns-in-Short-clause-rows c row =
     let n = c.stripped.result in
@@ -68,7 +69,8 @@ returns-in-Short-clause-rows c row =
     let short = by_digits c.args.self.now.decimal kept row in
     c.push_digits.ensures.rows (rw is at short.pointed) (rw (← row_digits n _ (sym is), is) at short.rows)
 
--- such a number has more digits or a larger exponent
+-- `IsRowText` does not hold for a `Long` number, because it has more than 19 digits or an exponent
+-- that does not fit 16 bits.
 pub returns-in-Long-clause-rows : goal.returns-in-Long-clause-rows
 returns-in-Long-clause-rows c row =
     let n = c.in-Long.field-0.value in

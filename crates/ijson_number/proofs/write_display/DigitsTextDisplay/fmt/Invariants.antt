@@ -1,7 +1,7 @@
 use Rattle.ijson_number.proofs.Common.{◌≡◌, ◌<◌, ◌++◌, List, ℕ, All, HasWritten, IsPlainFormatter, chunks_rest, chunks_size, digits_text}
 use Rattle.ijson_number.proofs.write_display.DigitsTextDisplay.fmt.Given as goal
 
--- with the digits that are left, all are written
+-- Loop invariant: the digits written so far, followed by the remaining digits, are all digits.
 abbrev pub invariant-loop-run : goal.invariant-loop-run
 invariant-loop-run g l =
     (goal.iterator-loop-run g).can_next l.run-iterator

@@ -4,7 +4,7 @@ use Rattle.ijson_number.proofs.writing.Writing.{shown_text}
 use Rattle.ijson_number.proofs.write_display.INumberDisplay.fmt.Goals.{Else-is_empty}
 use Rattle.ijson_number.proofs.write_display.INumberDisplay.fmt.Goals as goal
 
--- either branch, with a minus or none and the shape, writes the text of the number
+-- The sign and the shape that `fmt` writes are the text of the number.
 shown : (g : _) (c : Else-is_empty g) (minus : Bool) → c.stripped-number.result.negative ≡ minus → let n = c.stripped-number.result in
     minus_text minus ++ shape_text n.point n.digits.now (to_z w32 (of_z w32 n.exponent)) ≡ num_text c.args.self.now.decimal
 shown g c minus branch =

@@ -12,6 +12,6 @@ invariant_of-result g c = record {
       c.as_bytes-source.ensures.value (c.put_piece-2.ensures.rest ∙ c.put_piece.ensures.rest));
 }
 
--- given for speed: the default tactics take longer
+-- This proof is written out because the default tactics take longer to find it.
 pub returns : goal.returns
 returns g c = grind (arith, common_steps)

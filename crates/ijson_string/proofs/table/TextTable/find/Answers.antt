@@ -26,7 +26,8 @@ loop-at-init c =
     IsAhead-first c.args.hash c.args.text.now c.self.inside.links.items c.self.inside.texts.items c.self.inside.buckets.items
     c.in_ok-at.at c.self.invariant.0 c.self.invariant.1 known.inside known.head
 
--- the key before `at` has a link and a string
+-- If `at` is positive and at most the number of keys, the link and the string at index `at - 1`
+-- exist.
 before : (links : List Link) (texts : List (List ℕ)) (at : ℕ) → length texts ≡ length links → at ≤ length (keys_of (hashes_of links) texts)
     → 0 < at → (at - 1 < length links) × (at - 1 < length texts)
 before links texts at listed within some =
@@ -89,6 +90,6 @@ loop-at-preserved c =
     c.index-link.ensures other in
     search (rules, stepped)
 
--- given for speed: the default tactics take longer
+-- This proof is written out because the default tactics take longer to find it.
 pub returns-then-is_empty-clause-exact : goal.returns-then-is_empty-clause-exact
 returns-then-is_empty-clause-exact c = grind (arith, common_steps)

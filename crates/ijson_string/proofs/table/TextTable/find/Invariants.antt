@@ -4,7 +4,7 @@ use Rattle.ijson_string.specs.private.Keys.{keys_of}
 use Rattle.ijson_string.proofs.ChainLookup.{IsAhead}
 use Rattle.ijson_string.proofs.table.TextTable.find.Given as goal
 
--- the string is among those that the rest of the chain reaches, or absent
+-- Loop invariant: the string, if present, is in the rest of the chain.
 abbrev pub invariant-loop-at : goal.invariant-loop-at
 invariant-loop-at l = IsAhead (length (heads_of l.self-inside.buckets.items)) l.hash l.text
     (keys_of (hashes_of l.self-inside.links.items) l.self-inside.texts.items) l.at

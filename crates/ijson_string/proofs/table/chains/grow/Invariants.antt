@@ -2,7 +2,7 @@ use Rattle.std.proofs.Common.{◌≡◌, length, take}
 use Rattle.ijson_string.specs.private.IsTable.{hashes_of, IsTable}
 use Rattle.ijson_string.proofs.table.chains.grow.Given as goal
 
--- the links before `position` are chained, and no hash changed
+-- Loop invariant: the links before `position` form chains, and the hashes are unchanged.
 abbrev pub invariant-loop-position : goal.invariant-loop-position
 invariant-loop-position l = record {
   buckets : length l.buckets.items ≡ l.count;

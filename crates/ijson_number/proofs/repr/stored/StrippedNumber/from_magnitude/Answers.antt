@@ -16,7 +16,7 @@ write_digits-start-requires c =
     let last = s.ensures.stripped c.if-magnitude-eq0.false in
     (length-decimal-le 20 s.result.magnitude (omega arith) (omega arith) (search rules), omega arith)
 
--- the text of the canonical magnitude, converted to digits
+-- The last bytes of the buffer are the canonical digits of the magnitude.
 digits_are : (c : After-make_digits) → let start = c.write_digits-start.result in
     take (20 - start) (drop start c.make_digits.new.buffer) ≡ digits_of 10 c.canonical-canonical.result.magnitude
 digits_are c =
@@ -28,7 +28,7 @@ digits_are c =
     take_all (20 - w.result) (drop w.result buffer) (omega (arith, length-drop w.result buffer))
     ∙ made s.result.magnitude w.result w.new.buf buffer some (search rules) w.ensures.written c.make_digits.ensures
 
--- the number is that of the digits
+-- The number equals the number that its canonical digits and its exponent denote.
 number_is : (c : After-make_digits) → let start = c.write_digits-start.result in
     let s = c.canonical-canonical.result in
     stripped_number (signed c.args.negative c.args.magnitude) c.args.exponent c.args.point

@@ -15,7 +15,7 @@ run_text-requires-2-clause-below_ten c =
 pub returns-in_err-push_minus : goal.returns-in_err-push_minus
 returns-in_err-push_minus c = failed _ _ _ _ c.from_residual.ensures.0 (none_begun _ _ _ c.in_err-push_minus.ensures.refused)
 
--- the digits before the point
+-- The digits before the decimal point, in ASCII.
 abbrev whole : In_ok-push_str → List ℕ
 whole c = digits_text (take c.args.before c.args.self.now.digits.now)
 

@@ -1,7 +1,8 @@
 use Rattle.ijson_number.proofs.Common.{◌≡◌, ◌<◌, ◌++◌, List, ℕ, All, string_bytes, chunks_rest, chunks_size, digits_text}
 use Rattle.ijson_number.proofs.repr.stored.StrippedNumber.push_runs.Given as goal
 
--- with the digits that are left, all are written
+-- Loop invariant: the digits written so far, followed by the remaining digits, are all digits of
+-- the number.
 abbrev pub invariant-loop-run : goal.invariant-loop-run
 invariant-loop-run l =
     goal.iterator-loop-run.can_next l.run-iterator

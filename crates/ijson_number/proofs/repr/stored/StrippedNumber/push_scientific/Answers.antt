@@ -6,7 +6,8 @@ use Rattle.ijson_number.proofs.writing.WordTexts.{scientific_shown}
 use Rattle.ijson_number.proofs.repr.stored.StrippedNumber.push_scientific.Goals.{After-push_split}
 use Rattle.ijson_number.proofs.repr.stored.StrippedNumber.push_scientific.Goals as goal
 
--- the digits, split after the first, and the exponent are the text
+-- The digits with the point after the first digit, followed by `e` and the exponent, are the text
+-- of the number.
 shown : (c : After-push_split) (power : ℤ) → power ≡ c.args.place -ℤ pos 1
     → split_text c.args.self.now.negative c.args.self.now.digits.now 1 ++ 101 ∷ integer_text (int_lt power (pos 0)) (nat_abs power)
     ≡ num_text (decimal_of c.args.self.now)

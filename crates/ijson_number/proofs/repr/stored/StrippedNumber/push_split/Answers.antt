@@ -5,7 +5,7 @@ use Rattle.ijson_number.proofs.writing.Beginnings.{all_or_none}
 use Rattle.ijson_number.proofs.writing.DigitTexts.{length_text}
 use Rattle.ijson_number.proofs.repr.stored.StrippedNumber.push_split.Goals as goal
 
--- at most 16 digits, with which a vector ends
+-- In this module, there are at most 16 digits, and the vector `lanes` ends with them.
 module _ (lanes ds : List ℕ) (few : length ds ≤ 16) (is : drop (16 - length ds) lanes ≡ digits_text ds) (before : ℕ)
     (inside : before ≤ length ds) where
   front : take before (drop (16 - length ds) lanes) ≡ digits_text (take before ds)
@@ -16,7 +16,8 @@ module _ (lanes ds : List ℕ) (few : length ds ≤ 16) (is : drop (16 - length 
       let at : 16 - (length ds - before) ≡ 16 - length ds + before = omega arith in
       rw (at, ← drop-drop {A = ℕ} before (16 - length ds) lanes, is) (drop-map {X = ℕ} {Y = ℕ} (λ d. 48 + d) before ds)
 
--- more digits: one vector has the first of them, and another the last
+-- In this module, there are more than 16 digits. One vector holds the first 16 digits, and another
+-- holds the last 16.
 module _ (ds : List ℕ) (below : All (λ d. d < 10) ds) (many : 16 < length ds) where
   first_is : with_zero (take 16 ds) ≡ digits_text (take 16 ds)
   first_is = row_text (take 16 ds) (length-take-le 16 ds (omega arith)) (All-take (λ d. d < 10) 16 ds below)
