@@ -1,11 +1,11 @@
--- The number of inspections that building a table of a list of pairs takes.
+-- The bound on the inspections that building a table takes.
 use Rattle.std.specs.Prelude.{ℕ, ◌+◌, ◌*◌, ◌^◌, ◌≤◌}
 
--- the number of inspections per pair, without those of sorting
+-- The number of inspections per pair, not counting the inspections of sorting.
 abbrev pub looks_a_pair : ℕ
 looks_a_pair = 36
 
--- The inspections for n pairs are at most a constant times n log n: each pair takes this constant and, for each k with
--- n ≤ 2 ^ k, 2 * k more.
+-- Holds if `looks` is within the bound on the inspections of building a table of `n` pairs:
+-- `n * (looks_a_pair + 2 * k)` for every `k` with `n ≤ 2 ^ k`. The bound is O(n log n).
 abbrev pub IsBuildBounded : ℕ → ℕ → Type 0
 IsBuildBounded n looks = (k : ℕ) → n ≤ 2 ^ k → looks ≤ n * (looks_a_pair + 2 * k)

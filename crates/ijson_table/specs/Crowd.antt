@@ -1,29 +1,30 @@
--- How crowded the slots around a key's home slot are, for any hash and any residents.
+-- The size of the collision cluster of a key, for any hash and any keys.
 use Rattle.std.specs.Prelude.{ℕ, zero, suc, ◌+◌, ◌-◌, ◌/◌, ◌%◌, leb, max, List, count_by, if◌then◌else◌}
 
--- the number of slots of a table of capacity c
+-- The number of slots of a table of capacity `c`: five for every four entries.
 abbrev pub slot_count : ℕ → ℕ
 slot_count c = c + c / 4
 
--- the home slot of a key among n slots
+-- The home slot of `key` among `n` slots.
 abbrev pub home_of : (List ℕ → ℕ) → ℕ → List ℕ → ℕ
 home_of hash n key = hash key % n
 
--- the number of slots from one slot to another, around the end of n slots
+-- The number of slots from slot `from` to slot `to` of `n`, wrapping around.
 unfoldable pub distance : ℕ → ℕ → ℕ → ℕ
 distance n from to = (if leb from to then to - from else to + n - from)
 
--- the number of keys with their home slot among the s + 1 slots that end at this one
+-- The number of keys with their home slot among the `s + 1` slots that end at `slot`.
 unfoldable pub homed : (List ℕ → ℕ) → ℕ → List (List ℕ) → ℕ → ℕ → ℕ
 homed hash n keys slot s = count_by (λ key. leb (distance n (home_of hash n key) slot) s) keys
 
--- the maximum of f at the numbers below m, 0 if there are none
+-- The maximum of `f` at the numbers below `m`, or 0 if `m` is 0.
 abbrev pub greatest_below : ℕ → (ℕ → ℕ) → ℕ
 greatest_below zero f = 0
 greatest_below (suc m) f = max (f m) (greatest_below m f)
 
--- The maximum n such that, for some s below the number of slots, at least n + s keys have their home slot among the
--- s + 1 slots that end at the home slot of the key.
+-- The size of the collision cluster of the home slot of `key` in a table of capacity `c`: the
+-- maximum of `homed - s` over all `s` below the number of slots. `homed` counts the keys with their
+-- home slot among the `s + 1` slots that end at the home slot of `key`.
 unfoldable pub crowd : (List ℕ → ℕ) → List (List ℕ) → ℕ → List ℕ → ℕ
 crowd hash keys c key =
     greatest_below (slot_count c) (λ s. homed hash (slot_count c) keys (home_of hash (slot_count c) key) s - s)

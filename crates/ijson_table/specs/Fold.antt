@@ -1,17 +1,20 @@
--- The fold of words to one number below 2^64, this project's own, with the basis and the prime of FNV in 64 bits.
+-- The hash of `FixedHash`: words are folded to a number below 2 ^ 64. The basis and the prime are
+-- the numbers of FNV in 64 bits. The hash is not FNV: a word is added, not combined by exclusive
+-- or.
 use Rattle.std.specs.Prelude.{ℕ, ◌+◌, ◌*◌, ◌%◌, ◌^◌, List, fold}
 
--- the initial number, and the multiplier of each step
+-- The initial hash: the offset basis of FNV in 64 bits.
 abbrev pub basis : ℕ
 basis = 14695981039346656037
 
+-- The multiplier of each step: the prime of FNV in 64 bits.
 abbrev pub prime : ℕ
 prime = 1099511628211
 
--- one more word
+-- The hash `h` after one more word is folded.
 unfoldable pub fold_word : ℕ → ℕ → ℕ
 fold_word h word = (h * prime + word) % 2 ^ 64
 
--- all words, folded from the basis
+-- The hash of `words`: they are folded in order, starting from the basis.
 abbrev pub fold_words : List ℕ → ℕ
 fold_words words = fold fold_word basis words

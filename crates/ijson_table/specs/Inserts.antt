@@ -4,8 +4,10 @@ use Rattle.ijson_table.specs.declared.store.RefusedPair.{RefusedPair}
 use Rattle.ijson_table.specs.Store.{lookup, put}
 use Rattle.ijson_table.specs.Growth.{Grown, Ungrown}
 
--- An entry is inserted into a store of these pairs and capacity c, which then has pairs' and c'. A key that is present
--- takes no capacity; for a new one, growth comes first, and if it fails, the entry is returned.
+-- Holds if inserting `key` and `value` can have this result and end with `pairs'` and `c'`. If
+-- `key` is present, its value is replaced and the capacity is unchanged. Otherwise, the store grows
+-- if needed, and the entry is appended. If the growth fails, the entry is returned and the store is
+-- unchanged.
 abbrev pub Inserts : {V : Type 0} → List (List ℕ × V) → ℕ → List ℕ → V → Result (Option V) (RefusedPair V)
     → List (List ℕ × V) → ℕ → Type 0
 Inserts pairs c key value (Ok (Some old)) pairs' c' =

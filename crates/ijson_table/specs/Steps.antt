@@ -1,4 +1,4 @@
--- The possible replies to each command to a pair store, and their effects.
+-- The possible replies of a pair store to each command, and their effects.
 use Rattle.std.specs.Prelude.{◌≡◌, ℕ, List, [], ◌∷◌, length, Some, None, Ok, Err, slice_get}
 use Rattle.ijson_table.specs.declared.commands.Command.{Command}
 use Rattle.ijson_table.specs.declared.commands.Command.TheVariants.{Insert, Find, Remove, ShiftRemove, Reserve, ShrinkToFit, Clear}
@@ -8,8 +8,8 @@ use Rattle.ijson_table.specs.Store.{at, swap_out, shift_out}
 use Rattle.ijson_table.specs.Growth.{Grown, Ungrown, Shrink}
 use Rattle.ijson_table.specs.Inserts.{Inserts}
 
--- From these pairs and this capacity, the store may give this reply to the command and end with those pairs and that
--- capacity.
+-- Holds if a store of `pairs` and capacity `c` may reply `reply` to `command` and end with `pairs'`
+-- and `c'`.
 abbrev pub Step : {V : Type 0} → List (List ℕ × V) → ℕ → Command V → Reply V → List (List ℕ × V) → ℕ → Type 0
 Step pairs c (Insert k v) Added pairs' c' = Inserts pairs c k v (Ok None) pairs' c'
 Step pairs c (Insert k v) (Replaced old) pairs' c' = Inserts pairs c k v (Ok (Some old)) pairs' c'
@@ -29,10 +29,11 @@ Step pairs c (Reserve n) (NotDone why) pairs' c' = Ungrown (length pairs) c n wh
 Step pairs c ShrinkToFit Done pairs' c' = Shrink {A = Unit {0}} (length pairs) c (Ok tt) c' × (pairs' ≡ pairs)
 Step pairs c ShrinkToFit (NotDone why) pairs' c' = Shrink {A = Unit {0}} (length pairs) c (Err why) c' × (pairs' ≡ pairs)
 Step pairs c Clear Done pairs' c' = (pairs' ≡ []) × (c' ≡ c)
--- no other reply is possible
+-- No other reply is possible.
 Step pairs c command reply pairs' c' = ⊥
 
--- the store may give these replies to these commands, in order
+-- Holds if a store of `pairs` and capacity `c` may reply with these replies to these commands, in
+-- order, and end with `pairs'` and `c'`.
 abbrev pub Run : {V : Type 0} → List (List ℕ × V) → ℕ → List (Command V) → List (Reply V)
     → List (List ℕ × V) → ℕ → Type 0
 Run pairs c [] [] pairs' c' = (pairs' ≡ pairs) × (c' ≡ c)

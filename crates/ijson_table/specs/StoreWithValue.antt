@@ -1,10 +1,10 @@
--- A store after the value at an index is replaced.
+-- A pair store after the value at an index is replaced.
 use Rattle.std.specs.Prelude.{ℕ}
 use Rattle.std.proofs.Common.{sym, subst}
 use Rattle.ijson_table.specs.Store.{Store, IsDistinct, with_value}
 use Rattle.ijson_table.specs.laws.Store.{keys-with_value}
 
--- the store with this value at i, with its keys and its capacity
+-- The store `s` with `value` at index `i`. The keys and the capacity are unchanged.
 abbrev pub store_with_value : {V : Type 0} → Store V → ℕ → V → Store V
 store_with_value s i value = record {
   pairs = with_value s.pairs i value;

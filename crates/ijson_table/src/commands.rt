@@ -11,13 +11,13 @@ use std::alloc::{AllocError, Global};
 /// A command to a store.
 #[derive(Debug, Drop)]
 pub enum Command<V> {
-    /// Replaces the value of the key, without allocating, or appends a new entry.
+    /// Replaces the value of a present key, without allocating, or appends a new entry.
     Insert(IString, V),
     /// Looks up the index of the key.
     Find(IString),
-    /// Removes the entry with the key. The last entry takes its place.
+    /// Removes the entry with the key, and moves the last entry to the index of the removed entry.
     Remove(IString),
-    /// Removes the entry with the key. Each later entry moves down by one index.
+    /// Removes the entry with the key, and moves each later entry down by one index.
     ShiftRemove(IString),
     /// Reserves capacity for this number of additional entries.
     Reserve(usize),
@@ -32,21 +32,21 @@ pub enum Command<V> {
 pub enum Reply<V> {
     /// The entry is new.
     Added,
-    /// The key was present, with this value.
+    /// The key was present, with this old value.
     Replaced(V),
-    /// The store could not grow for the entry, which is returned with the reason.
+    /// The store failed to grow. The entry is returned with the reason.
     Refused(IString, V, ReserveError),
-    /// The index, or `None` if the key is missing.
+    /// The index of the key, or `None` if the key is missing.
     Found(Option<usize>),
     /// The removed entry, or `None` if the key is missing.
     Removed(Option<(IString, V)>),
     /// The command succeeded.
     Done,
-    /// The capacity did not change, for this reason.
+    /// The command failed for this reason, and the capacity is unchanged.
     NotDone(ReserveError),
 }
 
-/// Runs one command.
+/// Runs one command and returns its reply.
 #[tactic(auto, using(crate::proofs::pairs::PairsByKey::position_within))]
 fn step<V: Drop, P: PairStore<V>>(store: &mut P, command: Command<V>) -> Reply<V>
     ensures { Step (P.pairs store.old) (P.room store.old) command result
@@ -93,11 +93,12 @@ fn find<V, P: PairStore<V>>(store: &P, key: IString) -> Option<usize>
 
 /// Runs commands in order and returns their replies.
 ///
-/// Every kind of store replies and ends as the rules of the commands allow.
+/// The possible replies and their effects (`Run`) are the same for every kind of store.
 ///
 /// # Errors
 ///
-/// The list of replies is allocated first. If that fails, no command is run, and the commands are dropped.
+/// The list of replies is allocated first. If this allocation fails, no command is run, and the
+/// commands are dropped.
 ///
 /// ```
 /// let commands = vec![in alloc; Command::Insert(key, 1u64), Command::Reserve(10), Command::Clear]?;

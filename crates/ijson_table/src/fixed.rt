@@ -3,10 +3,10 @@
 use crate::hash::FixedHash;
 use crate::table::Table;
 
-/// A [`Table`] that hashes keys by [`FixedHash`]; objects store their entries in it.
+/// A [`Table`] that hashes keys with [`FixedHash`]. Objects store their entries in it.
 ///
 /// # Cost
 ///
-/// Lookups cost the same as those of a [`Table`]. Keys chosen to have one hash form one collision cluster, which each
-/// call for one of them scans.
+/// A lookup costs the same as in every other [`Table`]. Keys that were chosen to have equal hashes
+/// form one collision cluster, and a lookup of such a key scans all of the cluster.
 pub type FixedTable<V> = Table<V, FixedHash>;

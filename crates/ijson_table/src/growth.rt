@@ -14,7 +14,7 @@ pub const CAPACITY_LIMIT: usize = 1 << 56;
 ///
 /// # Errors
 ///
-/// `TooLarge` if that capacity would exceed the limit.
+/// `TooLarge` if that capacity exceeds the limit.
 pub fn grown_capacity(
     len: usize,
     capacity: usize,
@@ -36,7 +36,7 @@ pub fn grown_capacity(
     Ok(Some((2 * capacity).max(len + additional).max(4)))
 }
 
-/// Returns `capacity`, or `TooLarge` if it exceeds the limit.
+/// Returns `capacity`, or the error `TooLarge` if `capacity` exceeds the limit.
 pub fn check_capacity(capacity: usize) -> Result<usize, ReserveError>
     ensures { MatchResult result
         (λ n. (n ≡ capacity) × (capacity ≤ capacity_limit))

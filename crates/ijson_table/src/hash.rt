@@ -3,9 +3,9 @@
 ghost use Rattle.std.specs.Prelude.{◌≡◌, ℕ, List, fold};
 ghost use Rattle.ijson_table.specs.Fold.{fold_word, fold_words};
 
-/// A hash of strings: any function of their bytes.
+/// A hash function for strings: any function of their bytes.
 pub trait KeyHash {
-    /// The hash, by the bytes of a string.
+    /// The hash of a string, as a function of its bytes.
     ghost hash_of: { List ℕ → ℕ };
 
     /// Returns the hash of a string.
@@ -13,9 +13,9 @@ pub trait KeyHash {
         ensures { result ≡ hash_of text.now };
 }
 
-/// A fold of the bytes of a string, identical in every run.
+/// A hash that folds the bytes of a string, the same in every run.
 ///
-/// Anybody can choose strings that have the same hash.
+/// The hash lacks a seed, so anybody can choose strings that have the same hash.
 ///
 /// # Cost
 ///
@@ -27,9 +27,9 @@ impl FixedHash {
     /// The initial hash: the offset basis of FNV (Fowler, Noll, Vo) in 64 bits.
     pub const BASIS: u64 = 14_695_981_039_346_656_037;
 
-    /// The multiplier for one word, modulo 2^64: the prime of FNV.
+    /// The multiplier for one byte, modulo 2^64: the prime of FNV.
     ///
-    /// FNV combines a byte by exclusive or; here, a word is added.
+    /// FNV combines the hash with a byte by exclusive or. This hash adds the byte.
     pub const PRIME: u64 = 1_099_511_628_211;
 }
 
@@ -48,18 +48,19 @@ impl KeyHash for FixedHash {
     }
 }
 
-/// The multiplier for two words.
+/// The multiplier for two bytes.
 const PRIME_POWER_2: u64 = FixedHash::PRIME.wrapping_mul(FixedHash::PRIME);
 
-/// The multiplier for three words.
+/// The multiplier for three bytes.
 const PRIME_POWER_3: u64 = PRIME_POWER_2.wrapping_mul(FixedHash::PRIME);
 
-/// The multiplier for four words, folded in one step.
+/// The multiplier for four bytes, which are folded in one step.
 const PRIME_POWER_4: u64 = PRIME_POWER_3.wrapping_mul(FixedHash::PRIME);
 
-/// Folds four more words in one step.
+/// Folds four more bytes in one step.
 ///
-/// The products of the words do not depend on the hash, so only one multiplication waits for the previous step.
+/// The products of the bytes do not depend on the hash, so only one multiplication waits for the
+/// previous step.
 fn add_four(hash: u64, words: [u8; 4]) -> u64
     ensures { result ≡ fold fold_word hash words }
 {
@@ -72,7 +73,7 @@ fn add_four(hash: u64, words: [u8; 4]) -> u64
     hash.wrapping_mul(PRIME_POWER_4).wrapping_add(sum)
 }
 
-/// Folds more words, one at a time.
+/// Folds more bytes, one at a time.
 fn add_each(mut hash: u64, words: &[u8]) -> u64
     ensures { result ≡ fold fold_word hash words.now }
 {

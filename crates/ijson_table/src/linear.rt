@@ -16,11 +16,11 @@ use std::alloc::Global;
 use std::fmt;
 use std::marker::Model;
 
-/// Entries in a list, searched from the first on.
+/// A list of entries that is searched from the first entry on.
 ///
 /// # Cost
 ///
-/// Nothing is hashed. A lookup takes time linear in the number of entries.
+/// Keys are not hashed. A lookup takes time linear in the number of entries.
 #[derive(Drop)]
 pub struct LinearPairs<V> {
     pairs: Vec<(IString, V)>,
@@ -42,7 +42,7 @@ impl<V> Model for LinearPairs<V> {
     ghost invariant = { λ s. HasRoom (length s.pairs.items) (vec_capacity s.pairs) };
 }
 
-/// Returns the index of a key, if present.
+/// Returns the index of a key, or `None` if the key is missing.
 fn find<V>(pairs: &[(IString, V)], key: &str) -> Option<usize>
     ensures { result ≡ at pairs.now key.now }
 {
@@ -55,7 +55,7 @@ fn find<V>(pairs: &[(IString, V)], key: &str) -> Option<usize>
 }
 
 impl<V> LinearPairs<V> {
-    /// Creates an empty store with this capacity.
+    /// Creates an empty store with capacity `capacity`.
     ///
     /// A capacity of 0 does not allocate.
     ///
@@ -94,8 +94,8 @@ impl<V> LinearPairs<V> {
 impl<V: Drop> LinearPairs<V> {
     /// Inserts an entry and returns the old value of its key, if any.
     ///
-    /// A key that is present keeps its index, and nothing is allocated. A new key is appended; the store grows first if
-    /// it has no spare capacity.
+    /// A present key keeps its index, and nothing is allocated. A new entry is appended. If the
+    /// store is full, it grows first.
     ///
     /// # Errors
     ///
@@ -103,7 +103,7 @@ impl<V: Drop> LinearPairs<V> {
     ///
     /// # Cost
     ///
-    /// The keys are compared from the first on.
+    /// Linear in the number of entries: the keys are compared from the first on.
     pub fn insert(&mut self, key: IString, value: V) -> Result<Option<V>, RefusedPair<V>>
         ensures { Inserts self.old.pairs self.old.capacity key value result
             self.new.pairs self.new.capacity }

@@ -1,5 +1,8 @@
-//! `Slot`: one slot of a table; `Seen`: the result of an inspection; `Modulus`: the number of slots that hashes are
-//! reduced by.
+//! The slots of a table.
+//!
+//! - `Slot`: one slot.
+//! - `Seen`: the result of an inspection.
+//! - `Modulus`: the number of slots, by which hashes are reduced to home slots.
 
 ghost use Rattle.std.specs.Prelude.{◌≡◌, ◌+◌, ◌-◌, ◌<◌, ◌/◌, ◌%◌, ◌^◌, Some, None, IsTrue, ◌↔◌};
 ghost use Rattle.ijson_table.specs.Crowd.{distance};
@@ -19,22 +22,23 @@ pub enum Seen {
     Resident {
         /// The index of the entry.
         at: usize,
-        /// The number of slots from its home slot to this one, wrapping around.
+        /// The probe distance: the number of slots from the home slot to this slot, wrapping
+        /// around.
         distance: usize,
-        /// Whether its key is the one sought.
+        /// Whether the key of the entry is the key sought.
         same: bool,
     },
 }
 
-/// An empty slot, or the index of an entry with the hash of its key or the kept part of it.
+/// A slot: empty, or the index of an entry with the kept part of its key's hash.
 ///
-/// The hash gives the probe distance. A whole hash also differs from those of most other keys, so a probe rarely reads
-/// the memory of a key.
+/// The probe distance follows from the hash. Most keys with the same home slot have different
+/// hashes, so a probe rarely reads the memory of a key.
 #[derive(Clone, Copy, Drop)]
 pub struct Slot {
-    /// 0 if empty, else the index plus one.
+    /// 0 if the slot is empty, else the index plus one.
     code: usize,
-    /// The hash of the key of the resident, or the kept part of it.
+    /// The kept part of the hash of the resident's key.
     pub hash: u64,
 }
 
@@ -42,7 +46,7 @@ impl Slot {
     /// The empty slot.
     pub const EMPTY: Slot = Slot { code: 0, hash: 0 };
 
-    /// Returns the slot of index `position`, whose key has this hash.
+    /// Creates a slot with index `position` and hash `hash`.
     pub fn of(position: usize, hash: u64) -> Slot
         requires { position + 1 < 2 ^ 64 }
         ensures position { position_in result ≡ Some position }
@@ -61,7 +65,7 @@ impl Slot {
         self.code == 0
     }
 
-    /// Returns the resident, if any.
+    /// Returns the index in the slot, or `None` if the slot is empty.
     pub fn position(self) -> Option<usize>
         ensures { result ≡ position_in self }
     {
@@ -84,7 +88,9 @@ impl Slot {
         }
     }
 
-    /// Returns the result of an inspection; `same` is whether the resident is the one sought.
+    /// Returns the result of inspecting this slot, which is slot number `slot`.
+    ///
+    /// `same` is whether the key of the resident is the key sought.
     pub fn seen(self, modulus: Modulus, slot: usize, same: bool) -> Seen
         requires { slot < modulus.count }
         ensures { SeenAs self modulus.count slot same result }
@@ -100,7 +106,9 @@ impl Slot {
     }
 }
 
-/// Returns an index after the item at `from` was moved to `to`: those in between move by one.
+/// Returns `index` after the element at index `from` was moved to index `to`.
+///
+/// The indices in between change by one.
 #[inline(always)]
 fn moved(index: usize, from: usize, to: usize) -> usize
     ensures { result ≡ moved from to index }
@@ -130,14 +138,16 @@ pub fn distance_between(slots: usize, from: usize, to: usize) -> usize
     }
 }
 
-/// The largest number of slots for which a hash index keeps only part of each hash.
+/// The maximum number of slots for which slots keep only part of a hash.
 ///
-/// The part is the home slot and eight bits of the quotient. This is the number of slots for 127 entries.
+/// The kept part is the home slot and eight bits of the quotient of the hash by the number of
+/// slots. A table of capacity 127 has 158 slots.
 pub const NARROW_SLOTS: usize = 158;
 
 /// A number of slots with its reciprocal.
 ///
-/// It divides once, and reduces many hashes by multiplication, which takes a fraction of the time.
+/// Computing the reciprocal takes one division. With it, each hash is reduced by multiplication, in
+/// a fraction of the time of a division.
 #[derive(Clone, Copy, Drop)]
 pub struct Modulus {
     /// The number of slots.
@@ -169,10 +179,10 @@ impl Modulus {
         home as usize
     }
 
-    /// Returns the home slot of a hash, and the part of it that a hash index with this number of slots keeps.
+    /// Returns the home slot of a hash, and the part of the hash that a slot keeps.
     ///
-    /// With at most `NARROW_SLOTS` slots, that part is the home slot and eight bits of the quotient, which differ for
-    /// most other keys. Otherwise, it is the whole hash.
+    /// With at most `NARROW_SLOTS` slots, the kept part is the home slot and eight bits of the
+    /// quotient, which differ for most keys. Otherwise, the kept part is the full hash.
     #[inline(always)]
     pub fn split(self, hash: u64) -> (usize, u64)
         ensures home { result.0 ≡ hash % self.count }
@@ -190,9 +200,9 @@ impl Modulus {
     }
 }
 
-/// Returns the quotient and the remainder of a hash by `count`, through the reciprocal of `count`.
+/// Returns the quotient and the remainder of a hash by `count`, computed with its reciprocal.
 ///
-/// The reciprocal gives the quotient or one less.
+/// Multiplying by the reciprocal yields the quotient or the quotient minus one.
 #[inline(always)]
 fn divided(hash: u64, count: u64, reciprocal: u64) -> (u64, u64)
     requires some { 0 < count }

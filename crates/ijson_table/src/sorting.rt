@@ -1,4 +1,4 @@
-//! Tables built by sorting, which bounds the time for all keys.
+//! Building tables by sorting, which bounds the time for all keys.
 
 pub mod build;
 pub mod duplicates;

@@ -44,11 +44,11 @@ pub struct RefusedPair<V> {
     pub key: IString,
     /// The given value.
     pub value: V,
-    /// Why the store did not grow.
+    /// The reason why the store did not grow.
     pub why: ReserveError,
 }
 
-/// Converts to the reason and drops the entry.
+/// Converts to the reason, and drops the entry.
 impl<V: Drop> From<RefusedPair<V>> for ReserveError {
     ghost use Rattle.std.specs.Prelude.{◌≡◌};
 
@@ -67,11 +67,11 @@ impl<V: Drop> From<RefusedPair<V>> for ReserveError {
 ///
 /// # Cost
 ///
-/// Each entry of the capacity takes 16 bytes and the size of a value. A `Table` adds 20 bytes per
-/// entry, or 4 up to a capacity of 127, or none up to 8.
+/// Each entry of the capacity takes 16 bytes and the size of a value. A `Table` takes 20 more bytes
+/// per entry, or 4 up to a capacity of 127, or 0 up to a capacity of 8.
 ///
-/// A table that grows, shrinks or is copied hashes each key once, or twice if many keys collide. A copy with the same
-/// number of slots hashes no key.
+/// A table that grows, shrinks or is copied hashes each key once, or twice if many keys collide. A
+/// copy with the same number of slots hashes no key.
 pub trait PairStore<V>: Sized {
     /// The entries, in order.
     ghost pairs: { Self → List (List ℕ × V) };
@@ -82,10 +82,10 @@ pub trait PairStore<V>: Sized {
     /// All keys are distinct.
     ghost distinct: { (s : Self) → IsDistinct (keys_of (pairs s)) };
 
-    /// The store with another value at an index.
+    /// The store after the value at an index is replaced.
     ghost set_value: { Self → ℕ → V → Self };
 
-    /// Creates an empty store of capacity 0, which does not allocate.
+    /// Creates an empty store of capacity 0, without allocating.
     fn new(alloc: Global) -> Self
         ensures pairs { pairs result ≡ [] }
         ensures room { room result ≡ 0 };
@@ -94,7 +94,7 @@ pub trait PairStore<V>: Sized {
     fn len(&self) -> usize
         ensures { result ≡ length (pairs self.now) };
 
-    /// Returns the capacity, from the length to 2^56.
+    /// Returns the capacity, which is at least the length and at most 2^56.
     fn capacity(&self) -> usize
         ensures room { result ≡ room self.now }
         ensures within { length (pairs self.now) ≤ room self.now }
@@ -102,18 +102,22 @@ pub trait PairStore<V>: Sized {
 
     /// Reserves capacity for `additional` more entries.
     ///
-    /// If they do not fit, the new capacity is the maximum of twice the old one, the length plus `additional`, and 4.
-    /// Entries inserted one by one take a capacity of 4, 8, 16 and so on, and constant time each on average.
+    /// If they do not fit, the new capacity is the maximum of twice the old capacity, the length
+    /// plus `additional`, and 4. If entries are inserted one by one, the capacity is 4, 8, 16 and
+    /// so on, and each insertion takes amortized constant time.
     ///
     /// # Errors
     ///
-    /// `TooLarge` if the capacity would exceed 2^56, `Memory` if an allocation fails. The store is unchanged.
+    /// `TooLarge` if the capacity would exceed 2^56, `Memory` if an allocation fails. The store is
+    /// unchanged.
     ///
     /// # Cost
     ///
-    /// A growth moves each entry at most once. A table then fills new slots, in time linear in both capacities if few
-    /// keys collide. If there are more than 127 keys and many of them collide, it sorts entries of 16 bytes each in
-    /// temporary memory. So, for all keys, the time is at most O(n log n).
+    /// A growth moves each entry at most once. A table also fills new slots, in time linear in both
+    /// capacities if few keys collide.
+    ///
+    /// If there are more than 127 keys and many of them collide, a table sorts hashed indices of 16
+    /// bytes each in temporary memory. The time is at most O(n log n) for all keys.
     fn reserve(&mut self, additional: usize) -> Result<(), ReserveError>
         ensures grown { Grow (length (pairs self.old)) (room self.old) additional result (room self.new) }
         ensures room { OnOk result (length (pairs self.new) + additional ≤ room self.new) }
@@ -121,9 +125,9 @@ pub trait PairStore<V>: Sized {
 
     /// Shrinks the capacity to the length.
     ///
-    /// Does not allocate if the capacity equals the length or the length is 0. Each entry moves at most once, and a
-    /// table fills new slots. If there are more than 63 keys and many of them collide, it sorts entries in temporary
-    /// memory, like `reserve`.
+    /// Does not allocate if the capacity equals the length or the length is 0. Each entry moves at
+    /// most once, and a table fills new slots. If there are more than 63 keys and many of them
+    /// collide, a table sorts hashed indices in temporary memory, like `reserve`.
     ///
     /// # Errors
     ///
@@ -136,8 +140,8 @@ pub trait PairStore<V>: Sized {
     ///
     /// # Cost
     ///
-    /// A list compares its keys from the first on. A table hashes the key once, and compares it with the key of each
-    /// resident that it passes in the collision cluster of its home slot.
+    /// A list compares its keys from the first on. A table hashes `key` once, and compares it with
+    /// the key of each resident that the probe inspects.
     fn position(&self, key: &str) -> Option<usize>
         ensures { result ≡ at (pairs self.now) key.now };
 
@@ -157,9 +161,9 @@ pub trait PairStore<V>: Sized {
         value
     }
 
-    /// Borrows the key and mutably the value at `index`, which must be below the length.
+    /// Borrows the key and mutably borrows the value at `index`, in constant time.
     ///
-    /// It takes constant time.
+    /// `index` must be below the length.
     fn pair_mut(&mut self, index: usize) -> (&IString, &mut V)
         requires { index < length (pairs self.old) }
         ensures* writes_back { sem 𝓛
@@ -175,23 +179,28 @@ pub trait PairStore<V>: Sized {
         ensures pairs { pairs self.new ≡ pairs self.old ++ (key, value) ∷ [] }
         ensures room { room self.new ≡ room self.old };
 
-    /// Removes the entry at `index`, below the length; the last entry takes its place.
+    /// Removes and returns the entry at `index`, and moves the last entry to `index`.
+    ///
+    /// `index` must be below the length.
     ///
     /// # Cost
     ///
-    /// Constant for a list. A table hashes both keys, and shifts residents backward. Nothing is allocated.
+    /// Constant for a list. A table hashes both keys, and shifts residents backward. Nothing is
+    /// allocated.
     fn swap_out(&mut self, index: usize) -> (IString, V)
         requires { index < length (pairs self.old) }
         ensures pair { slice_get (pairs self.old) index ≡ Some result }
         ensures pairs { pairs self.new ≡ swap_out (pairs self.old) index }
         ensures room { room self.new ≡ room self.old };
 
-    /// Removes the entry at `index`, below the length; later entries move down by one index.
+    /// Removes and returns the entry at `index`, and moves each later entry down by one index.
+    ///
+    /// `index` must be below the length.
     ///
     /// # Cost
     ///
-    /// Linear in the number of later entries. Nothing is allocated. A table also passes over all its slots, unless the
-    /// entry is the last.
+    /// Linear in the number of later entries. Nothing is allocated. A table also passes over all
+    /// its slots, unless the entry is the last.
     fn shift_out(&mut self, index: usize) -> (IString, V)
         requires { index < length (pairs self.old) }
         ensures pair { slice_get (pairs self.old) index ≡ Some result }
@@ -199,7 +208,7 @@ pub trait PairStore<V>: Sized {
         ensures room { room self.new ≡ room self.old }
         ensures spare { length (pairs self.new) < room self.new };
 
-    /// Returns the entries, in order, without copying them.
+    /// Converts the store into the list of its entries, in order, without copying them.
     fn into_pairs(self) -> Vec<(IString, V)>
         ensures { result.items ≡ pairs self };
 
@@ -217,8 +226,8 @@ pub trait PairStore<V>: Sized {
 
 /// Inserts an entry into a store and returns the old value of its key, if any.
 ///
-/// A key that is present keeps its index, and nothing is allocated. A new key is appended; the store grows first if it
-/// has no spare capacity.
+/// A present key keeps its index, and nothing is allocated. A new entry is appended. If the store
+/// is full, it grows first.
 ///
 /// # Errors
 ///

@@ -36,15 +36,16 @@ use std::alloc::{AllocError, Global};
 use std::marker::{Model, PhantomData};
 use std::{fmt, mem, slice};
 
-/// Entries in a list, and their indices in slots by the hash of their keys.
+/// A list of entries, with a hash index: slots that hold the indices of the entries.
 ///
-/// There are five slots for every four entries of the capacity. A slot takes 16 bytes. Up to a capacity of 127, it
-/// takes three bytes and keeps only the home slot and eight more bits of a hash; up to 8, the slots are inline.
+/// There are five slots for every four entries of the capacity. A slot takes 16 bytes. Up to a
+/// capacity of 127, a slot takes three bytes and keeps only the home slot and eight more bits of a
+/// hash. Up to a capacity of 8, the slots are inline.
 ///
 /// # Cost
 ///
-/// `get`, `get_index_of` and `insert` read the memory of a key only if the kept parts of both hashes are equal;
-/// `position` and `locate` read the key of each resident that they pass.
+/// `get`, `get_index_of` and `insert` read the memory of a key only if the kept parts of both
+/// hashes are equal. `position` and `locate` read the key of each resident that they inspect.
 #[derive(Drop)]
 pub struct Table<V, H: KeyHash> {
     pairs: Vec<(IString, V)>,
@@ -74,7 +75,7 @@ impl<V, H: KeyHash> Model for Table<V, H> {
 }
 
 impl<V: Drop, H: KeyHash> Table<V, H> {
-    /// Creates an empty store with this capacity.
+    /// Creates an empty store with capacity `capacity`.
     ///
     /// A capacity of 0 does not allocate.
     ///
@@ -97,9 +98,10 @@ impl<V: Drop, H: KeyHash> Table<V, H> {
         })
     }
 
-    /// Creates a store of `pairs`, with this store's keys in its order and without spare capacity.
+    /// Creates a store of `pairs`, whose keys must be the keys of this store in the same order.
     ///
-    /// Serves to clone this store. An empty list does not allocate.
+    /// Use it to clone a store. The new store is without spare capacity. An empty list does not
+    /// allocate.
     ///
     /// # Errors
     ///
@@ -107,8 +109,8 @@ impl<V: Drop, H: KeyHash> Table<V, H> {
     ///
     /// # Cost
     ///
-    /// If this store has no spare capacity, no key is hashed, and the time is linear in the number of entries. Otherwise,
-    /// this costs as much as `from_pairs`.
+    /// If this store is without spare capacity, no key is hashed, and the time is linear in the
+    /// number of entries. Otherwise, the cost is the same as for `from_pairs`.
     pub fn with_same_keys(
         &self,
         alloc: Global,
@@ -132,8 +134,8 @@ impl<V: Drop, H: KeyHash> Table<V, H> {
 
     /// Inserts an entry and returns the old value of its key, if any.
     ///
-    /// A key that is present keeps its index, and nothing is allocated. A new key is appended; the store grows first if
-    /// it has no spare capacity.
+    /// A present key keeps its index, and nothing is allocated. A new entry is appended. If the
+    /// store is full, it grows first.
     ///
     /// # Errors
     ///
@@ -141,7 +143,7 @@ impl<V: Drop, H: KeyHash> Table<V, H> {
     ///
     /// # Cost
     ///
-    /// One walk over the slots, and a second one only if the store grew. The key is hashed once.
+    /// One probe, and a second probe only if the store grew. The key is hashed once.
     pub fn insert(&mut self, key: IString, value: V) -> Result<Option<V>, RefusedPair<V>>
         ensures { Inserts self.old.store.pairs self.old.store.capacity key value result
             self.new.store.pairs self.new.store.capacity }
@@ -149,9 +151,9 @@ impl<V: Drop, H: KeyHash> Table<V, H> {
         self.insert_counted(key, value, &mut Looks::new())
     }
 
-    /// Like `insert`, but counts each slot inspected for the key.
+    /// Like `insert`, but adds to `looks` each slot inspected for the key.
     ///
-    /// The walk that inserts the entry after a growth is not counted.
+    /// The second probe, after a growth, is not counted.
     #[inline(always)]
     pub fn insert_counted(
         &mut self,
@@ -188,7 +190,8 @@ impl<V: Drop, H: KeyHash> Table<V, H> {
 
     /// Sets the capacity to `capacity`, which must be the length or at least the old capacity.
     ///
-    /// Adds the steps of `slots_with_capacity` to `looks`. If an allocation fails, the table is unchanged.
+    /// Adds the steps of `slots_with_capacity` to `looks`. If an allocation fails, the table is
+    /// unchanged.
     fn set_capacity(&mut self, capacity: usize, looks: &mut Looks) -> Result<(), AllocError>
         requires room { HasRoom (length self.old.store.pairs) capacity }
         requires grows { length self.old.store.pairs < capacity → self.old.store.capacity ≤ capacity }
@@ -206,9 +209,9 @@ impl<V: Drop, H: KeyHash> Table<V, H> {
         Ok(())
     }
 
-    /// Like `reserve`, but counts the steps of a growth.
+    /// Like `reserve`, but adds the steps of a growth to `looks`.
     ///
-    /// It counts each slot inspected or written, and each comparison of two entries or of two keys in sorting.
+    /// A step is a slot inspected or written by an insertion, or a comparison in sorting.
     pub fn reserve_counted(
         &mut self,
         additional: usize,
@@ -227,7 +230,9 @@ impl<V: Drop, H: KeyHash> Table<V, H> {
         }
     }
 
-    /// Like `shrink_to_fit`, but counts the steps of filling the new slots, as `reserve_counted` does.
+    /// Like `shrink_to_fit`, but adds the steps of filling the new slots to `looks`.
+    ///
+    /// A step is a slot inspected or written by an insertion, or a comparison in sorting.
     pub fn shrink_to_fit_counted(&mut self, looks: &mut Looks) -> Result<(), ReserveError>
         requires fits { looks.old + 2 ^ 72 < 2 ^ 128 }
         ensures room { Shrink (length self.old.store.pairs) self.old.store.capacity result self.new.store.capacity }
@@ -241,7 +246,7 @@ impl<V: Drop, H: KeyHash> Table<V, H> {
         Ok(self.set_capacity(len, looks)?)
     }
 
-    /// Like `push_new`, for a key with this hash.
+    /// Like `push_new`, but with the hash of the key already computed.
     pub fn push_hashed(&mut self, key: IString, value: V, hash: u64)
         requires missing { at self.old.store.pairs key ≡ None }
         requires hash { hash ≡ H.hash_of key }
@@ -255,11 +260,14 @@ impl<V: Drop, H: KeyHash> Table<V, H> {
         };
     }
 
-    /// Replaces the key at an index by one that is missing, and returns the old key.
+    /// Replaces the key at `index` with `key`, and returns the old key.
+    ///
+    /// `index` must be below the length, and `key` must be missing.
     ///
     /// # Cost
     ///
-    /// Both keys are hashed, and the collision clusters of their home slots inspected. Nothing is allocated.
+    /// Hashes both keys, and inspects the collision clusters of their home slots. Nothing is
+    /// allocated.
     pub fn replace_key_at(&mut self, index: usize, key: IString) -> IString
         requires within { index < length self.old.store.pairs }
         requires missing { at self.old.store.pairs key ≡ None }
@@ -272,12 +280,14 @@ impl<V: Drop, H: KeyHash> Table<V, H> {
         mem::replace(&mut self.pairs[index].0, key)
     }
 
-    /// Moves the entry at index `from` to index `to`, both below the length; those in between move by one index.
+    /// Moves the entry at index `from` to index `to`.
+    ///
+    /// Both indices must be below the length. The entries in between move by one index.
     ///
     /// # Cost
     ///
-    /// Linear in the number of entries from the lower index on and in the number of slots. No key is hashed. Nothing is
-    /// allocated.
+    /// Linear in the number of slots and in the number of entries from the lower index on. No key
+    /// is hashed. Nothing is allocated.
     pub fn move_index(&mut self, from: usize, to: usize)
         requires from { from < length self.old.store.pairs }
         requires to { to < length self.old.store.pairs }
@@ -293,9 +303,9 @@ impl<V: Drop, H: KeyHash> Table<V, H> {
         }
     }
 
-    /// Like `push_hashed`, at the slot at which the probe for the key ended.
+    /// Like `push_hashed`, but inserts the index at `slot`, at which the probe for the key ended.
     ///
-    /// `kept` is the part of the hash of the key that the slots keep.
+    /// `kept` is the part of the key's hash that the slots keep.
     #[inline(always)]
     fn push_at(&mut self, slot: usize, key: IString, value: V, kept: u64)
         requires missing { at self.old.store.pairs key ≡ None }
@@ -338,14 +348,14 @@ impl<V, H: KeyHash> Table<V, H> {
     ///
     /// # Cost
     ///
-    /// It hashes the key once, and inspects the collision cluster of its home slot.
+    /// Hashes the key once, and inspects the collision cluster of its home slot.
     pub fn get(&self, key: &str) -> Option<&V>
         ensures { option_copied result ≡ lookup key.now self.now.store.pairs }
     {
         self.get_counted(key, &mut Looks::new())
     }
 
-    /// Like `get`, but counts each slot inspected.
+    /// Like `get`, but adds each slot inspected to `looks`.
     #[inline(always)]
     pub fn get_counted(&self, key: &str, looks: &mut Looks) -> Option<&V>
         requires { looks.old + capacity_limit + 1 < 2 ^ 128 }
@@ -364,14 +374,14 @@ impl<V, H: KeyHash> Table<V, H> {
     ///
     /// # Cost
     ///
-    /// That of `get`.
+    /// The same as for `get`.
     pub fn get_index_of(&self, key: &str) -> Option<usize>
         ensures { result ≡ at self.now.store.pairs key.now }
     {
         self.get_index_hashed(key, H::hash(key))
     }
 
-    /// Like `get_index_of`, for a key with this hash.
+    /// Like `get_index_of`, but with the hash of the key already computed.
     pub fn get_index_hashed(&self, key: &str, hash: u64) -> Option<usize>
         requires { hash ≡ H.hash_of key.now }
         ensures { result ≡ at self.now.store.pairs key.now }
@@ -383,14 +393,16 @@ impl<V, H: KeyHash> Table<V, H> {
     ///
     /// # Cost
     ///
-    /// That of `get`.
+    /// The same as for `get`.
     pub fn contains_key(&self, key: &str) -> bool
         ensures { result ≡ is_some (at self.now.store.pairs key.now) }
     {
         self.get_index_of(key).is_some()
     }
 
-    /// Probes for a key of this hash, and returns the part of the hash that the slots keep.
+    /// Probes for `key`, whose hash is `hash`.
+    ///
+    /// Returns the result of the probe and the part of the hash that the slots keep.
     #[inline(always)]
     fn find(&self, hash: u64, key: &str, looks: &mut Looks) -> (Probed, u64)
         requires hash { hash ≡ H.hash_of key.now }
@@ -415,12 +427,13 @@ impl<V, H: KeyHash> Table<V, H> {
         (probed, kept)
     }
 
-    /// Creates the slots of a table of these entries with this capacity.
+    /// Creates the slots of a table with these entries and capacity `capacity`.
     ///
-    /// If the number of slots is unchanged, they are copied. Otherwise, the indices are inserted in order, up to a bound
-    /// on the steps, past which the slots are filled by sorting.
+    /// If the number of slots is unchanged, the slots are copied. Otherwise, the indices are
+    /// inserted in order. If that takes too many steps, the slots are filled by sorting instead.
     ///
-    /// It counts each slot inspected or written in insertions, and each comparison of two entries in sorting.
+    /// Adds to `looks` each slot inspected or written by an insertion, and each comparison in
+    /// sorting.
     fn slots_with_capacity(
         &self,
         alloc: Global,
@@ -467,7 +480,7 @@ impl<V: fmt::Debug, H: KeyHash> fmt::Debug for Table<V, H> {
     }
 }
 
-/// An inspection compares the key with that of the resident, if any.
+/// An inspection compares the key with the key of the resident, if any.
 impl<V, H: KeyHash> Places for Table<V, H> {
     ghost hash_of = { H.hash_of };
 

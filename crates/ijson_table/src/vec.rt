@@ -6,9 +6,9 @@ ghost use Rattle.ijson_table.specs.private.Room.{IsResized};
 use std::alloc::{AllocError, Global};
 use std::mem;
 
-/// Moves the items to a list with no spare capacity.
+/// Moves the items to a new list without spare capacity.
 ///
-/// If the allocation fails, nothing changes.
+/// If the allocation fails, `list` is unchanged.
 pub fn reallocate_exact<T: Drop>(alloc: Global, list: &mut Vec<T>) -> Result<(), AllocError>
     ensures items { list.new.items ≡ list.old.items }
     ensures room { OnOk result (vec_capacity list.new ≡ length list.old.items) }
@@ -22,9 +22,9 @@ pub fn reallocate_exact<T: Drop>(alloc: Global, list: &mut Vec<T>) -> Result<(),
     Ok(())
 }
 
-/// Sets the capacity to `room`, which is the length or at least the old capacity.
+/// Sets the capacity to `room`, which must be the length or at least the old capacity.
 ///
-/// It grows in place if the allocator can. If the allocation fails, nothing changes.
+/// The list grows in place if the allocator can. If an allocation fails, `list` is unchanged.
 pub fn set_capacity<T: Drop>(
     alloc: Global,
     list: &mut Vec<T>,
@@ -43,7 +43,8 @@ pub fn set_capacity<T: Drop>(
 
 /// Frees the spare capacity.
 ///
-/// It shrinks in place if the allocator can; otherwise it moves the items, which may fail.
+/// The list shrinks in place if the allocator can. Otherwise, the items are moved to a new list,
+/// which may fail.
 pub fn shrink_to_len<T: Drop>(alloc: Global, list: &mut Vec<T>) -> Result<(), AllocError>
     ensures items { list.new.items ≡ list.old.items }
     ensures room { OnOk result (vec_capacity list.new ≡ length list.old.items) }
@@ -56,7 +57,7 @@ pub fn shrink_to_len<T: Drop>(alloc: Global, list: &mut Vec<T>) -> Result<(), Al
     reallocate_exact(alloc, list)
 }
 
-/// Removes the items from index `start` up to `end`.
+/// Removes the items at the indices `start..end`.
 #[inline(always)]
 pub fn remove_range<T: Drop>(list: &mut Vec<T>, start: usize, end: usize)
     requires start { start ≤ end }
@@ -64,7 +65,7 @@ pub fn remove_range<T: Drop>(list: &mut Vec<T>, start: usize, end: usize)
     ensures items { list.new.items ≡ take start list.old.items ++ drop end list.old.items }
     ensures room { vec_capacity list.new ≡ vec_capacity list.old }
 {
-    // Most ranges are empty, and a drain of no items would take as long as placing one.
+    // Most ranges are empty, and draining an empty range costs as much as inserting a pair.
     if start == end {
         return;
     }

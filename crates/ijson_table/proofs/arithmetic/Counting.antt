@@ -1,4 +1,4 @@
--- Counting by different indices.
+-- A lower bound of a sum, the first zero of a function, and the maximum of a function.
 use Rattle.std.proofs.Common.{◌≡◌, ◌≢◌, ℕ, zero, suc, ◌<◌, ◌≤◌, arith, List, length, get_or, set, true, false, eqb, ap}
 use Rattle.std.proofs.Common.{max, refl, subst, get_or-set_other}
 use Rattle.std.specs.Prelude.{sum}
@@ -7,8 +7,8 @@ use Rattle.std.proofs.lemmas.List.Sums.{sum_by-set}
 use Rattle.std.proofs.lemmas.Bool.Decides.{nat_tests}
 use Rattle.ijson_table.specs.Crowd.{greatest_below}
 
--- If each number below k is tied to an index at which the list is not zero, and no index is tied to two numbers, the
--- list sums up to at least k.
+-- If `R` relates each number below `k` to an index at which `ns` is not 0, and relates no index to
+-- two numbers, then `ns` sums to at least `k`.
 pub covers : (k : ℕ) (R : ℕ → ℕ → Type 0) (ns : List ℕ) → ((i j l : ℕ) → j < k → l < k → R i j → R i l → j ≡ l)
     → ((j : ℕ) → j < k → (i : ℕ) × (i < length ns) × R i j × (1 ≤ get_or ns i 0)) → k ≤ sum ns
 covers zero R ns alone h = omega arith
@@ -22,12 +22,13 @@ covers (suc k) R ns alone h =
     (one.0, omega (arith, length-set ns i 0, one.1), one.2, omega (arith, get_or-set_other ns i one.0 0 0 ne, one.3))) in
     omega (arith, sum_by-set (λ x. x) ns i 0 0 last.1, last.3, rest)
 
--- a function that is positive at 0 and at each later number below t + 1 is positive below it
+-- If `f` is positive at 0 and at the successor of each number below `t`, then `f` is positive at
+-- each number below `t + 1`.
 later : (f : ℕ → ℕ) → 0 < f 0 → (t : ℕ) → ((j : ℕ) → j < t → 0 < f (suc j)) → (j : ℕ) → j < suc t → 0 < f j
 later f first t h zero lj = first
 later f first t h (suc j) lj = h j (omega arith)
 
--- the least number at which f is 0
+-- If `f d` is 0, there is a least number at which `f` is 0.
 pub nearest : (d : ℕ) (f : ℕ → ℕ) → f d ≡ 0 → (t : ℕ) × (t ≤ d) × (f t ≡ 0) × ((j : ℕ) → j < t → 0 < f j)
 nearest zero f e = (0, omega arith, e, λ j lj. absurd (omega arith))
 nearest (suc d) f e = elim (eqb (f 0) 0) as (λ b. eqb (f 0) 0 ≡ b → (t : ℕ) × (t ≤ suc d) × (f t ≡ 0) × ((j : ℕ) → j < t → 0 < f j)) [
@@ -38,7 +39,7 @@ nearest (suc d) f e = elim (eqb (f 0) 0) as (λ b. eqb (f 0) 0 ≡ b → (t : �
       (suc rest.0, omega (arith, rest.1), rest.2, λ j lj. later f first rest.0 rest.3 j lj)
 ] refl
 
--- the maximum below k is at least each value
+-- The maximum of `f` below `k` is at least each value of `f` below `k`.
 pub greatest-at : (k : ℕ) (f : ℕ → ℕ) (s : ℕ) → s < k → f s ≤ greatest_below k f
 greatest-at zero f s h = absurd (omega arith)
 greatest-at (suc k) f s h = elim (eqb s k) as (λ b. eqb s k ≡ b → f s ≤ max (f k) (greatest_below k f)) [

@@ -1,11 +1,11 @@
--- Division of a hash n by a count d through the reciprocal of d, which is 2^64 - 1 divided by d. In the first lemmas, k
--- denotes 2^64, m the reciprocal, and e the quotient n m / k.
+-- Division of a hash `n` by a count `d`, with the reciprocal `(2 ^ 64 - 1) / d`. In the first
+-- lemmas, `k` is 2 ^ 64, `m` is the reciprocal, and `e` is the quotient `n * m / k`.
 use Rattle.std.proofs.Common.{◌≡◌, ℕ, ◌+◌, ◌-◌, ◌*◌, ◌/◌, ◌%◌, ◌^◌, ◌<◌, ◌≤◌, ap, ap₂, subst, sym, ◌∙◌, arith}
 use Rattle.std.proofs.Math.Nat.{le_of_mul-le-mul_left, lt_of_mul-lt-mul_left, lt-mul-div-succ, mul-div-le, mul-le-mul_left}
 use Rattle.std.proofs.Math.Nat.{mul-le-mul_right, mul-lt-mul_of_pos_right, mod-lt, mul-add-mod_self_right}
 use Rattle.std.proofs.lemmas.Nat.{div-add-mod', div-mul-add, mod-mul-add, mul-add-lt}
 
--- e is at most the quotient by d
+-- The quotient `e`, computed with the reciprocal `m`, is at most `n / d`.
 not_above : (k n d m e : ℕ) → 0 < k → k * e ≤ n * m → d * m ≤ k → e * d ≤ n
 not_above k n d m e p below reciprocal =
     let a : k * e * d ≤ n * m * d = mul-le-mul_right d below in
@@ -13,7 +13,7 @@ not_above k n d m e p below reciprocal =
     let c : k * (e * d) ≤ k * n = grind (arith, a, b) in
     le_of_mul-le-mul_left c p
 
--- e is at most one below the quotient by d
+-- The quotient `e`, computed with the reciprocal `m`, is at least `n / d - 1`.
 near : (k n d m e : ℕ) → 0 < d → n < k → n * m < k * (e + 1) → k ≤ d * (m + 1) → n < (e + 2) * d
 near k n d m e p small above reciprocal =
     let a : n * m * d < k * (e + 1) * d = mul-lt-mul_of_pos_right above p in
@@ -22,7 +22,7 @@ near k n d m e p small above reciprocal =
     let s : k * n < k * ((e + 2) * d) = grind (arith, a, b, c) in
     lt_of_mul-lt-mul_left k s
 
--- a quotient by the reciprocal is at most the quotient by d
+-- The quotient computed with the reciprocal of `d` is at most `n / d`.
 pub quotient-not_above : (n d a b : ℕ) → a ≡ n → b ≡ (2 ^ 64 - 1) / d → a * b / 2 ^ 64 * d ≤ n
 quotient-not_above n d a b hash reciprocal =
     let m = (2 ^ 64 - 1) / d in
@@ -31,7 +31,7 @@ quotient-not_above n d a b hash reciprocal =
     (omega (arith, r)) in
     subst (λ e. e * d ≤ n) (sym (ap₂ (λ x y. x * y / 2 ^ 64) hash reciprocal)) h
 
--- a quotient by the reciprocal is at most one below the quotient by d
+-- The quotient computed with the reciprocal of `d` is at least `n / d - 1`.
 pub quotient-near : (n d a b : ℕ) → a ≡ n → b ≡ (2 ^ 64 - 1) / d → 0 < d → n < 2 ^ 64 → n < (a * b / 2 ^ 64 + 2) * d
 quotient-near n d a b hash reciprocal p small =
     let m = (2 ^ 64 - 1) / d in
@@ -40,12 +40,13 @@ quotient-near n d a b hash reciprocal p small =
     (omega (arith, r)) in
     subst (λ e. n < (e + 2) * d) (sym (ap₂ (λ x y. x * y / 2 ^ 64) hash reciprocal)) h
 
--- the quotient and the remainder of a number by d
+-- Holds if `e` is the quotient and `left` is the remainder of `n` by `d`.
 pub record IsDivided (n d e left : ℕ) : Type 0 where
   pub quotient : e ≡ n / d
   pub left_is : left ≡ n % d
 
--- the difference is the remainder if it is less than d
+-- If `n - e * d` is less than `d`, then `e` is the quotient and `n - e * d` is the remainder of `n`
+-- by `d`.
 pub divides : (n d e : ℕ) → e * d ≤ n → n - e * d < d → IsDivided n d e (n - e * d)
 divides n d e h small =
     let whole : e * d + (n - e * d) ≡ n = omega (arith, h) in
@@ -54,7 +55,8 @@ divides n d e h small =
       left_is = sym (mod-mul-add e d (n - e * d) small) ∙ ap (λ x. x % d) whole;
     }
 
--- otherwise the remainder is d less, if the quotient is near
+-- If `n - e * d` is at least `d`, and `n` is less than `(e + 2) * d`, the quotient of `n` by `d` is
+-- `e + 1`.
 pub divides_more : (n d e : ℕ) → e * d ≤ n → n < (e + 2) * d → d ≤ n - e * d → IsDivided n d (e + 1) (n - e * d - d)
 divides_more n d e h near more =
     let below : (e + 1) * d ≤ n = grind (arith, h, more) in
@@ -62,7 +64,7 @@ divides_more n d e h near more =
     let small : n - (e + 1) * d < d = grind (arith, near, below) in
     subst (IsDivided n d (e + 1)) (sym same) (divides n d (e + 1) below small)
 
--- a number modulo 256 d: the remainder by d, and 256 of the quotient by d
+-- `n % (d * 256)` is the quotient `n / d` modulo 256, times `d`, plus the remainder `n % d`.
 pub by_more : (n d : ℕ) → 0 < d → n / d % 256 * d + n % d ≡ n % (d * 256)
 by_more n d p =
     let q : ℕ = n / d in
@@ -74,7 +76,7 @@ by_more n d p =
     sym (mod-mul-add (q / 256) (d * 256) (q % 256 * d + r) small)
     ∙ ap (λ x. x % (d * 256)) (sym split ∙ (ap (λ x. x * d + r) parts ∙ whole))
 
--- n % (d * 256) and n have the same remainder by d
+-- `n % (d * 256)` and `n` have the same remainder by `d`.
 pub mod-more : (n d : ℕ) → n % (d * 256) % d ≡ n % d
 mod-more n d =
     let q : ℕ = n / (d * 256) in

@@ -1,4 +1,4 @@
--- Writing entries sorted by home slot to empty slots, one by one.
+-- Hashed indices, sorted by home slot, are written to empty slots.
 use Rattle.std.proofs.Common.{◌≡◌, ◌⊎◌, ℕ, suc, ◌+◌, ◌<◌, ◌≤◌, inl, inr, arith, List, length, get_or, map, set, take, None, ◌%◌, ap, sym}
 use Rattle.std.proofs.Common.{refl, subst, ◌∙◌, get_or-set_other}
 use Rattle.std.specs.List.{All}
@@ -24,14 +24,15 @@ use Rattle.ijson_table.proofs.slots.HashesInSlots.{all_empty, displacement-read,
 use Rattle.ijson_table.proofs.slots.HashesInSlots.{position-at, positions-length, positions-set}
 use Rattle.ijson_table.proofs.slots.Residents.{times-set, times-more, times-nil}
 
--- The first k entries are in their slots, and the other slots are empty.
+-- Holds if element `j` of `sorted` is in slot `p j`, for each `j` below `k`, and every other slot
+-- is empty.
 pub record Filled (n : ℕ) (p : ℕ → ℕ) (sorted : List HashedIndex) (k : ℕ) (slots : List Slot) : Type 0 where
   pub count : length slots ≡ n
   pub there : (j : ℕ) → j < k → get_or slots (p j) blank ≡ slot_for (get_or sorted j past_last)
   pub others : (q : ℕ) → q < n → (position_in (get_or slots q blank) ≡ None) ⊎ ((j : ℕ) × (j < k) × (q ≡ p j))
   pub placed : (i : ℕ) → times i (positions slots) ≡ times i (take k (map index_in sorted))
 
--- before the first entry
+-- Empty slots satisfy `Filled` for 0 elements of `sorted`.
 pub filled_none : (n : ℕ) (p : ℕ → ℕ) (sorted : List HashedIndex) (slots : List Slot) → length slots ≡ n → All (λ slot. position_in slot ≡ None) slots
     → Filled n p sorted 0 slots
 filled_none n p sorted slots count empty = record {
@@ -41,7 +42,8 @@ filled_none n p sorted slots count empty = record {
   placed = λ i. omega (arith, times-none i (positions slots) (all_empty slots empty), times-nil i);
 }
 
--- one more entry
+-- If `Filled` holds for `k` elements, it holds for `k + 1` elements after element `k` is written to
+-- its slot.
 pub filled_more : (n : ℕ) (p : ℕ → ℕ) (sorted : List HashedIndex) → ArePlaces n sorted p → (k : ℕ) (slots : List Slot) → k < length sorted
     → Filled n p sorted k slots → Filled n p sorted (k + 1) (set slots (p k) (slot_for (get_or sorted k past_last)))
 filled_more n p sorted places k slots lk f =
@@ -77,7 +79,7 @@ filled_more n p sorted places k slots lk f =
       );
     }
 
--- after all entries
+-- If `Filled` holds for all elements of `sorted`, the slots are a table.
 module _ (p : ℕ → ℕ) (sorted : List HashedIndex) (slots : List Slot) (places : ArePlaces (length slots) sorted p)
     (f : Filled (length slots) p sorted (length sorted) slots) (hashes : List ℕ) (are : AreEntries (length slots) hashes sorted) where
   abbrev n : ℕ

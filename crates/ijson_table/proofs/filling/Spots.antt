@@ -1,4 +1,4 @@
--- The slots to which sorted entries are written.
+-- The slots to which sorted hashed indices are written.
 use Rattle.std.proofs.Common.{◌≡◌, ◌≢◌, ◌⊎◌, ℕ, zero, suc, ◌+◌, ◌-◌, ◌<◌, ◌≤◌, inl, inr, arith, List, length, get_or, max, ap}
 use Rattle.std.specs.Prelude.{ltb, if◌then◌else◌}
 use Rattle.std.proofs.lemmas.Bool.{cases_eq, cases_lt}
@@ -12,7 +12,7 @@ use Rattle.ijson_table.specs.private.Homes.{home_of_entry, next_after, passing}
 use Rattle.ijson_table.specs.private.Sorting.{past_last, IsSortedBy}
 use Rattle.ijson_table.proofs.firsts.KeyTies.{homes_ascend, sorted_at}
 
--- the slot at a number below 2 * n, around the end of n slots
+-- The slot with number `p`, below `2 * n`, after wrapping around `n` slots.
 unfoldable pub wrapped : ℕ → ℕ → ℕ
 wrapped n p = (if ltb p n then p else p - n)
 
@@ -20,7 +20,7 @@ module _ (h : ℕ → ℕ) (s : ℕ) where
   abbrev next : ℕ → ℕ
   next k = next_after h s k
 
-  -- each entry is written further on
+  -- `next` grows by at least 1 with each hashed index.
   rises : (k l : ℕ) → k ≤ l → next k + l ≤ next l + k
   rises k zero le = omega (arith, ap next (let e : k ≡ 0 = omega arith in e))
   rises k (suc l) le = elim (cases_lt k (suc l)) [
@@ -28,7 +28,8 @@ module _ (h : ℕ → ℕ) (s : ℕ) where
     | inr same ↦ omega (arith, ap next (let e : k ≡ suc l = omega arith in e))
   ]
 
-  -- later ones end no further after the last home slot, or the previous end, than their number
+  -- If the first `l` home slots are at most `b`, `next l` exceeds the maximum of `next k` and `b`
+  -- by at most `l - k`.
   upper : (b k l : ℕ) → k ≤ l → ((j : ℕ) → j < l → h j ≤ b) → next l + k ≤ max (next k) b + l
   upper b k zero le within = omega (arith, ap next (let e : k ≡ 0 = omega arith in e))
   upper b k (suc l) le within = elim (cases_lt k (suc l)) [
@@ -36,19 +37,22 @@ module _ (h : ℕ → ℕ) (s : ℕ) where
     | inr same ↦ omega (arith, ap next (let e : k ≡ suc l = omega arith in e))
   ]
 
-  -- they end where they end from the first slot on, or one after the other from the start
+  -- The slot after `k` indices written from slot `s` on is the maximum of `s + k` and the slot
+  -- after `k` indices written from slot 0 on.
   from_start : (k : ℕ) → next_after h s k ≡ max (s + k) (next_after h 0 k)
   from_start zero = omega arith
   from_start (suc k) = omega (arith, from_start k)
 
--- the number of the slot of each entry if those that pass the end take the first slots
+-- The slot number of element `k` of `sorted`, before wrapping around. The first slots are reserved
+-- for the elements that wrap around.
 abbrev pub spot : ℕ → List HashedIndex → ℕ → ℕ
 spot n sorted k = max (next_after (home_of_entry n sorted) (passing n sorted) k) (home_of_entry n sorted k)
 
 abbrev pub place : ℕ → List HashedIndex → ℕ → ℕ
 place n sorted k = wrapped n (spot n sorted k)
 
--- Different slots for entries. Each is the home slot, or comes after one that is displaced as far, but for one slot.
+-- Holds if `p` assigns different slots to the elements of `sorted`. Each element is in its home
+-- slot, or is displaced at most one slot further than the element in the previous slot.
 pub record ArePlaces (n : ℕ) (sorted : List HashedIndex) (p : ℕ → ℕ) : Type 0 where
   pub below : (k : ℕ) → k < length sorted → p k < n
   pub apart : (j k : ℕ) → j < k → k < length sorted → p j ≢ p k
@@ -76,7 +80,8 @@ module _ (n : ℕ) (sorted : List HashedIndex) (room : length sorted ≤ n) (key
   h-ascends : (j k : ℕ) → j < k → k < m → h j ≤ h k
   h-ascends j k less lk = homes_ascend n keys (get_or sorted j past_last) (get_or sorted k past_last) (sorted_at (entry_before n keys) sorted ordered j k less lk)
 
-  -- k entries, and the later ones, from the first slot on
+  -- The slot after all elements is bounded by the home slot of element `k` and the number of later
+  -- elements.
   split : (k : ℕ) → k < m → n + w + k ≤ max (n + k) (max (h k + k) (n - 1) + m)
   split k lk = omega (
     arith,
@@ -87,7 +92,7 @@ module _ (n : ℕ) (sorted : List HashedIndex) (room : length sorted ≤ n) (key
   few : 0 < m → w < n
   few some = omega (arith, split 0 some, h-below 0 some, room)
 
-  -- all end within a turn
+  -- The slot number of each element is below `n + w`, before wrapping around.
   within : (k : ℕ) → k < m → at k < n + w
   within k lk = omega (arith, room, from_start h w m, rises h w (suc k) m (omega arith))
 
@@ -100,7 +105,8 @@ module _ (n : ℕ) (sorted : List HashedIndex) (room : length sorted ≤ n) (key
       let near : at k < h k + n = omega (arith, split k lk, room, upper h w (h k) 0 k (omega arith) (λ j lj. h-ascends j k lj lk)) in
       grind (arith, nat_tests, h-below k lk, near)
 
-  -- if entry `k` is not in its home slot, the previous slot has an entry, and `k` is displaced at most one slot further
+  -- If element `k` is not in its home slot, the previous slot has an element, and element `k` is
+  -- displaced at most one slot further.
   previous : (k : ℕ) → k < m → at k ≢ h k → (i : ℕ) × (i < m) × (after n (place n sorted i) ≡ place n sorted k) × (at k + h i ≤ at i + 1 + h k)
   unfolding wrapped after
   previous zero lk away =

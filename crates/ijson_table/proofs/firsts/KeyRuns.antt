@@ -1,4 +1,4 @@
--- The walk over the sorted entries of pairs: the previous entry of a key has an earlier index.
+-- The pass over sorted hashed indices finds an earlier index for each duplicate key.
 use Rattle.std.proofs.Common.{◌≡◌, ◌≢◌, ℕ, suc, ◌+◌, ◌-◌, ◌<◌, ◌≤◌, inl, inr, arith, List, [], length, get_or, set, map, Some, None}
 use Rattle.std.proofs.Common.{refl, sym, ap, subst, ◌∙◌, get_or-set_other, get_or-set_same}
 use Rattle.std.proofs.lemmas.Bool.{cases_eq, cases_order}
@@ -16,8 +16,8 @@ use Rattle.ijson_table.proofs.building.EntriesInOrder.{entry_within}
 use Rattle.ijson_table.proofs.firsts.KeyTies.{between, lower_first, same_entry_key, sorted_at, tied}
 use Rattle.ijson_table.proofs.slots.Residents.{stands, stands_once}
 
--- After k entries: earlier indices are written at the indices that were passed, and this was the last entry, or is the
--- first.
+-- Holds after the first `k` elements of `sorted` are read. `earlier` has an earlier index for each
+-- element read. `last` is the previous element, or the first element if `k` is 0.
 pub record EarlierSoFar (keys : List (List ℕ)) (sorted : List HashedIndex) (k : ℕ) (last : HashedIndex) (earlier : List ℕ) : Type 0 where
   pub count : length earlier ≡ length keys
   pub last_is : last ≡ get_or sorted (k - 1) past_last
@@ -25,11 +25,11 @@ pub record EarlierSoFar (keys : List (List ℕ)) (sorted : List HashedIndex) (k 
       → IsEarlier keys (get_or sorted j past_last).index (get_or earlier (get_or sorted j past_last).index 0)
 
 module _ {n : ℕ} {hash : List ℕ → ℕ} (keys : List (List ℕ)) (sorted : List HashedIndex) (s : AreInOrder n hash keys sorted) where
-  -- the index of an entry is one of the list
+  -- The index of each element of `sorted` is below the number of keys.
   pub is_position : (k : ℕ) → k < length sorted → (get_or sorted k past_last).index < length keys
   is_position k lk = omega (arith, entry_within n (map hash keys) sorted s.entries k lk, length-map keys hash)
 
-  -- each index has an entry
+  -- Each index of a key is the index of an element of `sorted`.
   pub spot : (i : ℕ) → i < length keys → (k : ℕ) × (k < length sorted) × ((get_or sorted k past_last).index ≡ i)
   spot i li =
       let one : times i (map index_in sorted) ≡ 1 = grind (arith, nat_tests, s.entries.placed i, length-map keys hash) in
@@ -38,19 +38,20 @@ module _ {n : ℕ} {hash : List ℕ → ℕ} (keys : List (List ℕ)) (sorted : 
       let same : Some (get_or sorted it.0 past_last).index ≡ Some i = sym (get_or-map index_in sorted it.0 past_last None lk) ∙ it.2 in
       (it.0, lk, cc)
 
-  -- each entry has its key's hash
+  -- Each element of `sorted` has the kept part of its key's hash.
   is_hashed : (k : ℕ) → k < length sorted → (get_or sorted k past_last).hash ≡ kept n (hash (entry_key keys (get_or sorted k past_last)))
   is_hashed k lk =
       All-get_or (IsHashed n (map hash keys)) sorted k past_last lk s.entries.hashes_are
       ∙ ap (kept n) (get_or-map hash keys (get_or sorted k past_last).index [] 0 (is_position k lk))
 
-  -- entries of one key have one hash
+  -- Elements of `sorted` with the same key have the same hash.
   one_hash : (k l : ℕ) → k < length sorted → l < length sorted
       → entry_key keys (get_or sorted k past_last) ≡ entry_key keys (get_or sorted l past_last)
       → (get_or sorted k past_last).hash ≡ (get_or sorted l past_last).hash
   one_hash k l lk ll same = is_hashed k lk ∙ (ap (λ key. kept n (hash key)) same ∙ sym (is_hashed l ll))
 
-  -- an entry whose key differs from the previous one has the first index of its key
+  -- If element `k` differs from the previous element in its key, no lower index has the key of
+  -- element `k`.
   none_before : (k : ℕ) → k < length sorted
       → ((j : ℕ) → suc j ≡ k → cmp_keys n keys (get_or sorted j past_last) (get_or sorted k past_last) ≢ Equal)
       → (j : ℕ) → j < (get_or sorted k past_last).index → get_or keys j [] ≢ entry_key keys (get_or sorted k past_last)
@@ -82,7 +83,8 @@ module _ {n : ℕ} {hash : List ℕ → ℕ} (keys : List (List ℕ)) (sorted : 
         ]
       ]
 
-  -- if the key differs from the previous entry, the index stands for itself
+  -- If element `k` differs from the previous element in its key or hash, its index satisfies
+  -- `IsEarlier` for itself.
   pub other_key : (k : ℕ) (last : HashedIndex) → k < length sorted → last ≡ get_or sorted (k - 1) past_last
       → ((last.hash ≡ (get_or sorted k past_last).hash) × (entry_key keys last ≡ entry_key keys (get_or sorted k past_last)) → ⊥)
       → IsEarlier keys (get_or sorted k past_last).index (get_or sorted k past_last).index
@@ -97,7 +99,8 @@ module _ {n : ℕ} {hash : List ℕ → ℕ} (keys : List (List ℕ)) (sorted : 
         )),
   )
 
-  -- if the key is that of the previous entry, that entry has an earlier index
+  -- If element `k` has the key of the previous element, the index of the previous element satisfies
+  -- `IsEarlier` for the index of element `k`.
   pub same_key : (k : ℕ) (last : HashedIndex) → k < length sorted → last ≡ get_or sorted (k - 1) past_last
       → (last.hash ≡ (get_or sorted k past_last).hash) × (entry_key keys last ≡ entry_key keys (get_or sorted k past_last))
       → IsEarlier keys (get_or sorted k past_last).index last.index
@@ -124,7 +127,8 @@ module _ {n : ℕ} {hash : List ℕ → ℕ} (keys : List (List ℕ)) (sorted : 
             inl (omega (arith, lower, apart, there), ap (λ i. get_or keys i []) (sym there) ∙ key)
       ]
 
-  -- one more entry
+  -- If `EarlierSoFar` holds for `k` elements, it holds for `k + 1` elements after an earlier index
+  -- of element `k` is written.
   pub goes_on : (k q : ℕ) (last : HashedIndex) (earlier : List ℕ) → k < length sorted → EarlierSoFar keys sorted k last earlier
       → IsEarlier keys (get_or sorted k past_last).index q
       → EarlierSoFar keys sorted (k + 1) (get_or sorted k past_last) (set earlier (get_or sorted k past_last).index q)
@@ -145,7 +149,7 @@ module _ {n : ℕ} {hash : List ℕ → ℕ} (keys : List (List ℕ)) (sorted : 
         ];
       }
 
-  -- after all entries
+  -- If `EarlierSoFar` holds for all elements of `sorted`, then `earlier` satisfies `AreEarlier`.
   pub all_told : (k : ℕ) (last : HashedIndex) (earlier : List ℕ) → length sorted ≤ k → EarlierSoFar keys sorted k last earlier
       → AreEarlier keys earlier
   all_told k last earlier all so = record {

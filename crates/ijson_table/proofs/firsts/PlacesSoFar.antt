@@ -1,4 +1,4 @@
--- Pairs inserted in order within their list by earlier indices of their keys, and the indices of their keys so far.
+-- Pairs are inserted in order within their list, by an earlier index of each key.
 use Rattle.std.proofs.Common.{◌≡◌, ◌≢◌, ℕ, ◌+◌, ◌<◌, ◌≤◌, inl, inr, arith, List, [], ◌∷◌, ◌++◌, length, get_or, set, take, drop}
 use Rattle.std.proofs.Common.{Some, None, refl, sym, ap, ap₂, subst, ◌∙◌, get_or-set_other, get_or-set_same, length-take-le, le_of_lt}
 use Rattle.std.specs.Prelude.{swap}
@@ -11,8 +11,9 @@ use Rattle.ijson_table.proofs.firsts.PutPlaces.{at-put_each, at-put_kept, at-put
 use Rattle.ijson_table.proofs.pairs.PairsByKey.{key_at, keys-length}
 use Rattle.ijson_table.proofs.pairs.PutInPlace.{before, Moved, moved_first, moved_left, next, next_key, one_more, over_left, over_put}
 
--- The first k pairs are the first n as if they were inserted in order; the others are left. At an index below n is the
--- index of its key among the k; at the others, an earlier index.
+-- Holds after the first `n` pairs of `all` are inserted. The first `k` pairs are the result, and
+-- the pairs from `n` on are unchanged. For each index below `n`, `places` has the index of its key
+-- among the first `k` pairs. From `n` on, `places` equals `earlier`.
 pub record PlacesSoFar {V : Type 0} (all pairs : List (List ℕ × V)) (earlier places : List ℕ) (k n : ℕ) : Type 0 where
   pub within : k ≤ n
   pub put : take k pairs ≡ put_each [] (take n all)
@@ -21,7 +22,8 @@ pub record PlacesSoFar {V : Type 0} (all pairs : List (List ℕ × V)) (earlier 
   pub rest : (i : ℕ) → n ≤ i → get_or places i 0 ≡ get_or earlier i 0
   pub placed : (i : ℕ) → i < n → at (take k pairs) (get_or (keys_of all) i []) ≡ Some (get_or places i 0)
 
--- An iteration: the number at n was read, and the pair at n is put behind the first k.
+-- Holds in an iteration after the number at index `n` of `places` is read as `e`, and pair `n` is
+-- moved to index `k`.
 pub record Turn {V : Type 0} (all pairs new : List (List ℕ × V)) (earlier places : List ℕ) (k n e : ℕ) : Type 0 where
   pub so_far : PlacesSoFar all pairs earlier places k n
   pub size : length pairs ≡ length all
@@ -31,7 +33,7 @@ pub record Turn {V : Type 0} (all pairs new : List (List ℕ × V)) (earlier pla
 
 module _ {V : Type 0} (all : List (List ℕ × V)) (earlier : List ℕ) (are : AreEarlier (keys_of all) earlier)
     (pairs new : List (List ℕ × V)) (places : List ℕ) (k n e : ℕ) (t : Turn all pairs new earlier places k n e) where
-  -- `places` has one index for each pair
+  -- The length of `places` equals the number of pairs.
   count : length places ≡ length all
   count = omega (arith, t.so_far.count, are.count, keys-length all)
 
@@ -44,7 +46,7 @@ module _ {V : Type 0} (all : List (List ℕ × V)) (earlier : List ℕ) (are : A
   in_all : n < length all
   in_all = omega (arith, t.more, t.size)
 
-  -- `pair` is pair `n` of `all`
+  -- `pair` is pair `n` of `all`.
   pair_is : pair ≡ get_or all n pair
   pair_is =
       pair_at.was ∙ (sym (at_drop_more (λ xs. get_or xs 0 pair) pairs n pair t.more)
@@ -53,17 +55,17 @@ module _ {V : Type 0} (all : List (List ℕ × V)) (earlier : List ℕ) (are : A
   key_is : get_or (keys_of all) n [] ≡ pair.0
   key_is = key_at all n pair in_all ∙ ap (λ p. p.0) (sym pair_is)
 
-  -- the number read is its earlier index
+  -- `e` satisfies `IsEarlier` for index `n`.
   earlier_is : IsEarlier (keys_of all) n e
   earlier_is = subst (IsEarlier (keys_of all) n)
       (sym (get_or_read places n e (omega (arith, in_all, count)) t.read 0 ∙ t.so_far.rest n (omega arith)))
       (are.each n (omega (arith, in_all, keys-length all)))
 
-  -- moving the pair keeps the index of its key among the inserted keys
+  -- Moving the pair keeps the index of its key among the first `k` pairs.
   at_is : at (take k new) (get_or (keys_of new) k []) ≡ at (take k pairs) pair.0
   at_is = ap₂ at (moved_first pairs new k n t.so_far.within t.more t.moved) (next_key pairs new k n t.so_far.within t.more t.moved)
 
-  -- if `e` is `n`, the inserted pairs lack the key
+  -- If `e` is `n`, the key of `pair` is new: the first `k` pairs lack it.
   lacks : e ≡ n → at (take k pairs) pair.0 ≡ None
   lacks own = elim earlier_is [
     | inl other ↦ absurd (omega (arith, own, other))
@@ -73,22 +75,25 @@ module _ {V : Type 0} (all : List (List ℕ × V)) (earlier : List ℕ) (are : A
         ∙ (ap (λ ks. get_or ks j []) (take-map (λ pair. pair.0) n all) ∙ (same ∙ sym key_is))))
   ]
 
-  -- else the pair at the earlier index has the key
+  -- If `e` is not `n`, the key of `pair` is a duplicate: `e` is below `n`, and `places` has the
+  -- index of the key at `e`.
   earlier_one : e ≢ n → (e < n) × (at (take k pairs) pair.0 ≡ Some (get_or places e 0))
   earlier_one other = elim earlier_is [
     | inl one ↦ (one.0, ap (at (take k pairs)) (sym (one.1 ∙ key_is)) ∙ t.so_far.placed e one.0)
     | inr own ↦ absurd (other own.0)
   ]
 
-  -- the earlier index is below the length
+  -- If `e` is not `n`, then `e` is below the length of `places`.
   pub within : e ≢ n → e < length places
   within other = omega (arith, (earlier_one other).0, in_all, count)
 
-  -- the index of the key is at the earlier index
+  -- If `e` is not `n`, the number that is read at index `e` of `places` is the index of the key of
+  -- `pair`.
   place_of : e ≢ n → (place : ℕ) → place ≡ get_or places e place → at (take k pairs) pair.0 ≡ Some place
   place_of other place read = (earlier_one other).1 ∙ ap Some (sym (get_or_read places e place (within other) read 0))
 
-  -- which is below the length
+  -- If `e` is not `n`, the number that is read at index `e` of `places` is below the length of the
+  -- list.
   pub place_below : e ≢ n → (place : ℕ) → place ≡ get_or places e place → place < length new
   place_below other place read = omega (
     arith,
@@ -99,7 +104,8 @@ module _ {V : Type 0} (all : List (List ℕ × V)) (earlier : List ℕ) (are : A
     length-swap pairs k n,
   )
 
-  -- one more pair is inserted, and the index of its key is written
+  -- If `pair` is inserted and the index of its key is written, `PlacesSoFar` holds for `n + 1`
+  -- pairs.
   inserted : (k' p : ℕ) (pairs' : List (List ℕ × V)) (places' : List ℕ) → k' ≤ n + 1 → take k' pairs' ≡ put (take k pairs) pair.0 pair.1
       → drop (n + 1) pairs' ≡ drop (n + 1) new → places' ≡ set places n p → at (put (take k pairs) pair.0 pair.1) pair.0 ≡ Some p
       → PlacesSoFar all pairs' earlier places' k' (n + 1)
@@ -125,14 +131,15 @@ module _ {V : Type 0} (all : List (List ℕ × V)) (earlier : List ℕ) (are : A
         ];
       }
 
-  -- a new key is inserted last
+  -- If the key of `pair` is new, moving the pair to index `k` inserts it last.
   pub with_new : e ≡ n → (places' : List ℕ) → places' ≡ set places n k → PlacesSoFar all new earlier places' (k + 1) (n + 1)
   with_new own places' written =
       inserted (k + 1) k new places' (omega (arith, t.so_far.within))
       (one_more pairs new k n t.so_far.within t.more t.moved (at_is ∙ lacks own)) refl written
       (at-put_new (take k pairs) pair.0 pair.1 (lacks own) ∙ ap Some (length-take-le k pairs (omega (arith, t.so_far.within, t.more))))
 
-  -- a duplicate key gets the pair
+  -- If the key of `pair` is a duplicate, swapping `pair` with the pair at the index of its key
+  -- inserts it.
   pub with_old : e ≢ n → (place : ℕ) → place ≡ get_or places e place → (last : List (List ℕ × V)) → last ≡ swap new place k
       → (places' : List ℕ) → places' ≡ set places n place → PlacesSoFar all last earlier places' k (n + 1)
   with_old other place read last is places' written =

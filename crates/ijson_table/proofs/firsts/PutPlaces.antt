@@ -11,7 +11,7 @@ use Rattle.ijson_table.proofs.pairs.PairsByKey.{keys-length, put-absent, put-pre
 use Rattle.ijson_table.proofs.pairs.PutEach.{put_each-append}
 
 module _ {V : Type 0} where
-  -- an insertion keeps the index of any other key
+  -- Inserting `k` keeps the index of every other key.
   at-put_other : (ps : List (List ℕ × V)) (k key : List ℕ) (v : V) → k ≢ key → at (put ps k v) key ≡ at ps key
   at-put_other [] k key v ne = elim (same_key k key) [
     | inl s ↦ absurd (ne s.1)
@@ -22,7 +22,7 @@ module _ {V : Type 0} where
     | inr d ↦ simp (d.0, at-put_other ps k key v ne)
   ]
 
-  -- an insertion keeps the index of a key that is present
+  -- An insertion keeps the index of each present key.
   pub at-put_kept : (ps : List (List ℕ × V)) (k key : List ℕ) (v : V) (i : ℕ) → at ps key ≡ Some i → at (put ps k v) key ≡ Some i
   at-put_kept ps k key v i e = elim (same_key k key) [
     | inl s ↦ ap (λ qs. at qs key) (put-present ps i k v (ap (at ps) s.1 ∙ e))
@@ -30,7 +30,7 @@ module _ {V : Type 0} where
     | inr d ↦ at-put_other ps k key v d.1 ∙ e
   ]
 
-  -- a new key is last
+  -- The index of an inserted missing key is the length before the insertion.
   pub at-put_new : (ps : List (List ℕ × V)) (key : List ℕ) (v : V) → at ps key ≡ None → at (put ps key v) key ≡ Some (length ps)
   at-put_new ps key v e =
       let keys : List (List ℕ) = keys_of ps in
@@ -40,7 +40,7 @@ module _ {V : Type 0} where
       (get_or-append_seam keys key [] [])
       (λ j lj same. absent-from keys key e j lj (sym (get_or-append keys (key ∷ []) [] j lj) ∙ same)) ∙ ap Some (keys-length ps)))
 
-  -- inserting pairs keeps the index of a key that none of them has
+  -- If the pairs of `more` lack `key`, inserting `more` keeps the index of `key`.
   pub at-put_each : (ps more : List (List ℕ × V)) (key : List ℕ) → ((j : ℕ) → j < length more → get_or (keys_of more) j [] ≢ key)
       → at (put_each ps more) key ≡ at ps key
   at-put_each ps [] key other = refl
@@ -48,7 +48,8 @@ module _ {V : Type 0} where
       at-put_each (put ps pair.0 pair.1) more key (λ j lj. other (suc j) (omega arith))
       ∙ at-put_other ps pair.0 key pair.1 (other 0 (omega arith))
 
-  -- one more pair is inserted last
+  -- Inserting `done` and one more pair, in order, equals inserting that pair into the result for
+  -- `done`.
   pub put_each-more : (done : List (List ℕ × V)) (key : List ℕ) (value : V)
       → put_each [] (done ++ (key, value) ∷ []) ≡ put (put_each [] done) key value
   put_each-more done key value = put_each-append [] done ((key, value) ∷ [])

@@ -1,4 +1,4 @@
--- Pairs inserted in order.
+-- Insertion of pairs in order.
 use Rattle.std.proofs.Common.{◌≡◌, ◌≢◌, ℕ, ◌+◌, ◌<◌, ◌≤◌, inl, inr, arith, List, [], ◌∷◌, ◌++◌, length, take, drop, Option, Some, None}
 use Rattle.std.proofs.Common.{Result, Ok, Err, refl, sym, ap, subst, ◌∙◌, append_assoc}
 use Rattle.std.specs.Prelude.{IsOk}
@@ -14,24 +14,24 @@ use Rattle.ijson_table.specs.laws.Store.{keys-with_value}
 use Rattle.ijson_table.proofs.pairs.PairsByKey.{distinct_pushed, put-absent, put-present}
 use Rattle.ijson_table.proofs.probing.KeyHashes.{had_room}
 
--- a growth that failed lacked capacity
+-- If a growth failed, the wanted capacity exceeds the capacity.
 short : (len c n c' : ℕ) (why : ReserveError) → Ungrown len c n why c' → c < wanted len c n
 short len c n c' Memory h = h.1
 short len c n c' TooLarge h = h.1
 
 module _ {V : Type 0} where
-  -- first those of one list, then those of another
+  -- Inserting `first ++ more` equals inserting `first`, then `more`.
   pub put_each-append : (pairs first more : List (List ℕ × V)) → put_each pairs (first ++ more) ≡ put_each (put_each pairs first) more
   put_each-append pairs [] more = refl
   put_each-append pairs (pair ∷ first) more = put_each-append (put pairs pair.0 pair.1) first more
 
-  -- a key that no list of pairs has is not the one in the middle
+  -- If a list of pairs lacks `key`, the key of a pair in the middle differs from `key`.
   lacks_middle : (key : List ℕ) (pairs : List (List ℕ × V)) (pair : List ℕ × V) (more : List (List ℕ × V))
       → Lacks key (keys_of (pairs ++ pair ∷ more)) → key ≢ pair.0
   lacks_middle key [] pair more l = l.0
   lacks_middle key (p ∷ pairs) pair more l = lacks_middle key pairs pair more l.1
 
-  -- if keys are distinct, the first pairs lack the key of the next
+  -- If the keys of a list are distinct, the pairs before `pair` lack its key.
   missing : (pairs : List (List ℕ × V)) (pair : List ℕ × V) (more : List (List ℕ × V)) → IsDistinct (keys_of (pairs ++ pair ∷ more))
       → at pairs pair.0 ≡ None
   missing [] pair more d = refl
@@ -40,7 +40,7 @@ module _ {V : Type 0} where
     | inr n ↦ simp (n.0, missing pairs pair more d.1)
   ]
 
-  -- if all keys are distinct, the pairs are appended
+  -- If all keys are distinct, inserting `more` appends `more`.
   pub put_each-new : (pairs more : List (List ℕ × V)) → IsDistinct (keys_of (pairs ++ more)) → put_each pairs more ≡ pairs ++ more
   put_each-new pairs [] d = sym (append-nil pairs)
   put_each-new pairs (pair ∷ more) d =
@@ -48,18 +48,20 @@ module _ {V : Type 0} where
       ap (λ ps. put_each ps more) (put-absent pairs pair.0 pair.1 (missing pairs pair more d))
       ∙ (put_each-new (pairs ++ pair ∷ []) more (subst (λ ps. IsDistinct (keys_of ps)) (sym whole) d) ∙ whole)
 
-  -- the first pairs may be present already, if their keys are distinct
+  -- If the first `n` keys are distinct, inserting all pairs equals inserting the pairs from `n` on
+  -- into the first `n` pairs.
   pub put_each-split : (pairs : List (List ℕ × V)) (n : ℕ) → IsDistinct (keys_of (take n pairs))
       → put_each (take n pairs) (drop n pairs) ≡ put_each [] pairs
   put_each-split pairs n d =
       ap (λ ps. put_each ps (drop n pairs)) (sym (put_each-new [] (take n pairs) d))
       ∙ (sym (put_each-append [] (take n pairs) (drop n pairs)) ∙ ap (put_each []) (take-append-drop n pairs))
 
-  -- if the keys of a list are distinct, inserting all of it and then more is inserting more after it
+  -- If the keys of `pairs` are distinct, inserting `pairs ++ more` equals inserting `more` into
+  -- `pairs`.
   pub put_each-behind : (pairs more : List (List ℕ × V)) → IsDistinct (keys_of pairs) → put_each [] (pairs ++ more) ≡ put_each pairs more
   put_each-behind pairs more d = put_each-append [] pairs more ∙ ap (λ ps. put_each ps more) (put_each-new [] pairs d)
 
-  -- inserting a key keeps the keys distinct
+  -- Inserting a key keeps the keys distinct.
   put-distinct : (pairs : List (List ℕ × V)) (key : List ℕ) (value : V) → IsDistinct (keys_of pairs)
       → IsDistinct (keys_of (put pairs key value))
   put-distinct pairs key value d =
@@ -68,12 +70,12 @@ module _ {V : Type 0} where
         | Some i ↦ λ e. rw (put-present pairs i key value e, keys-with_value pairs i value) d
       ] refl
 
-  -- inserting a list keeps the keys distinct
+  -- Inserting a list of pairs keeps the keys distinct.
   pub put_each-distinct : (pairs more : List (List ℕ × V)) → IsDistinct (keys_of pairs) → IsDistinct (keys_of (put_each pairs more))
   put_each-distinct pairs [] d = d
   put_each-distinct pairs (pair ∷ more) d = put_each-distinct (put pairs pair.0 pair.1) more (put-distinct pairs pair.0 pair.1 d)
 
-  -- an insertion adds at most one
+  -- Inserting a key adds at most one pair.
   pub put-length : (pairs : List (List ℕ × V)) (key : List ℕ) (value : V) → length (put pairs key value) ≤ length pairs + 1
   put-length [] key value = omega arith
   put-length (pair ∷ pairs) key value = elim (same_key pair.0 key) [
@@ -81,7 +83,7 @@ module _ {V : Type 0} where
     | inr d ↦ simp d.0 (omega (arith, put-length pairs key value))
   ]
 
-  -- if there is spare capacity, an insertion does not grow
+  -- If there is spare capacity, an insertion succeeds without growth.
   pub put_in_room : (pairs : List (List ℕ × V)) (c : ℕ) (key : List ℕ) (value : V) (answer : Result (Option V) (RefusedPair V))
       (pairs' : List (List ℕ × V)) (c' : ℕ) → length pairs < c
       → Inserts pairs c key value answer pairs' c' → IsOk answer × (pairs' ≡ put pairs key value) × (c' ≡ c)

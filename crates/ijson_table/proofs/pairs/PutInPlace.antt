@@ -1,4 +1,5 @@
--- Pairs inserted in order within their list: the first k have distinct keys, and those from p on are left.
+-- Insertion of pairs in order within their list. The first `k` pairs have distinct keys, and the
+-- pairs from `p` on are not yet inserted.
 use Rattle.std.proofs.Common.{◌≡◌, ℕ, ◌+◌, ◌<◌, ◌≤◌, arith, List, [], ◌∷◌, length, get_or, set, take, drop, Some, None, sym, ap, ap₂, ◌∙◌, refl}
 use Rattle.std.proofs.Common.{length-take-le, le_of_lt}
 use Rattle.std.specs.Prelude.{swap}
@@ -11,17 +12,17 @@ use Rattle.ijson_table.proofs.pairs.KeyPositions.{position-some}
 use Rattle.ijson_table.proofs.pairs.PairsByKey.{key_at, position_within, put-absent, put-present, set-value}
 
 module _ {X : Type 0} where
-  -- a swap after the first n keeps them
+  -- Swapping items from index `n` on keeps the first `n` items.
   take-swap : (xs : List X) (n i j : ℕ) → n ≤ i → n ≤ j → take n (swap xs i j) ≡ take n xs
   take-swap [] n i j ni nj = refl
   take-swap (x ∷ xs) n i j ni nj = simp take-set-le
 
-  -- a swap among the first n keeps the others
+  -- Swapping items before index `n` keeps the items from index `n` on.
   drop-swap : (xs : List X) (n i j : ℕ) → i < n → j < n → drop n (swap xs i j) ≡ drop n xs
   drop-swap [] n i j ni nj = refl
   drop-swap (x ∷ xs) n i j ni nj = simp drop-set-lt
 
--- the pair at p is moved to index k
+-- Holds if `pair` is pair `p` of the old list and pair `k` of the new list.
 pub record Moved {V : Type 0} (old new : List (List ℕ × V)) (k p : ℕ) : Type 0 where
   pub pair : List ℕ × V
   pub is : pair ≡ get_or new k pair
@@ -39,11 +40,11 @@ moved (x ∷ xs) new k p kp lp is =
     }
 
 module _ {V : Type 0} (old new : List (List ℕ × V)) (k p : ℕ) (kp : k ≤ p) (lp : p < length old) (is : new ≡ swap old k p) where
-  -- the first k pairs stay
+  -- Moving the pair keeps the first `k` pairs.
   pub moved_first : take k new ≡ take k old
   moved_first = ap (take k) is ∙ take-swap old k k p (omega arith) kp
 
-  -- the pairs after p stay
+  -- Moving the pair keeps the pairs after index `p`.
   pub moved_left : drop (p + 1) new ≡ drop (p + 1) old
   moved_left = ap (drop (p + 1)) is ∙ drop-swap old (p + 1) k p (omega (arith, kp)) (omega arith)
 
@@ -56,12 +57,13 @@ module _ {V : Type 0} (old new : List (List ℕ × V)) (k p : ℕ) (kp : k ≤ p
   pub next_key : get_or (keys_of new) k [] ≡ next.pair.0
   next_key = key_at new k next.pair within ∙ ap (λ x. x.0) (sym next.is)
 
-  -- inserting the pairs from p on begins with the pair at p
+  -- Inserting the next pair, then the pairs after index `p`, equals inserting the pairs from `p`
+  -- on.
   next_left : put_each (put (take k old) next.pair.0 next.pair.1) (drop (p + 1) new) ≡ put_each (take k old) (drop p old)
   next_left = ap (put_each (put (take k old) next.pair.0 next.pair.1)) moved_left
       ∙ sym (at_drop_more (put_each (take k old)) old p next.pair lp ∙ ap (λ x. put_each (put (take k old) x.0 x.1) (drop (p + 1) old)) (sym next.was))
 
-  -- if the key of the pair is new, the pair is inserted
+  -- If the key of the next pair is new, moving the pair to index `k` inserts it.
   pub one_more : at (take k new) (get_or (keys_of new) k []) ≡ None → take (k + 1) new ≡ put (take k old) next.pair.0 next.pair.1
   one_more missing =
       let appended = put-absent (take k new) next.pair.0 next.pair.1 (ap (at (take k new)) (sym next_key) ∙ missing) in
@@ -75,7 +77,7 @@ module _ {V : Type 0} (old new : List (List ℕ × V)) (k p : ℕ) (kp : k ≤ p
     pub before : i < k
     before = omega (arith, position_within (take k new) (get_or (keys_of new) k []) i found, length-take-le k new (le_of_lt within))
 
-    -- the swap sets the value of the key at i
+    -- Swapping pairs `i` and `k` sets the value at index `i` to the value of the next pair.
     over : take k (swap new i k) ≡ with_value (take k new) i next.pair.1
     over =
         let first : List (List ℕ × V) = take k new in
@@ -89,11 +91,12 @@ module _ {V : Type 0} (old new : List (List ℕ × V)) (k p : ℕ) (kp : k ≤ p
         let value = set-value first i pair next.pair.1 there (get_or_default first i next.pair pair there) in
         cc (swapped, last, put, value, next.is, same)
 
-    -- the swap keeps the keys
+    -- Swapping pairs `i` and `k` keeps the first `k` keys.
     pub over_keys : keys_of (take k (swap new i k)) ≡ keys_of (take k old)
     over_keys = ap keys_of over ∙ (keys-with_value (take k new) i next.pair.1 ∙ ap keys_of moved_first)
 
-    -- the swap inserts the next pair
+    -- If the key of the next pair is at index `i`, swapping pairs `i` and `k` inserts the next
+    -- pair.
     pub over_put : take k (swap new i k) ≡ put (take k old) next.pair.0 next.pair.1
     over_put =
         let replaced = put-present (take k new) i next.pair.0 next.pair.1 (ap (at (take k new)) (sym next_key) ∙ found) in

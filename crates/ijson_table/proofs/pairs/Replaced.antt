@@ -1,10 +1,11 @@
--- Replacing the value of a key.
+-- Insertion of a key that is present.
 use Rattle.std.proofs.Common.{◌≡◌, ℕ, List, Some, ap, sym, ◌∙◌}
 use Rattle.std.specs.Prelude.{slice_get}
 use Rattle.ijson_table.specs.Store.{at, lookup, put, with_value}
 use Rattle.ijson_table.proofs.pairs.PairsByKey.{lookup-found, put-present}
 
--- the result and the effect of inserting a key that is present
+-- Replacing the value at the index of `key` equals inserting `key`, and the old value is the result
+-- of looking up `key`.
 pub replaced : {V : Type 0} (before after : List (List ℕ × V)) (position : ℕ) (pair : List ℕ × V) (key : List ℕ) (value old : V)
     → slice_get before position ≡ Some pair → old ≡ pair.1 → after ≡ with_value before position value → at before key ≡ Some position
     → (lookup key before ≡ Some old) × (after ≡ put before key value)

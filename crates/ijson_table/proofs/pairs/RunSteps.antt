@@ -1,10 +1,10 @@
--- A run with one more step.
+-- A run with one more command.
 use Rattle.std.proofs.Common.{◌≡◌, ℕ, List, [], ◌∷◌, ◌++◌, ap, subst, refl, map}
 use Rattle.ijson_table.specs.declared.commands.Command.{Command}
 use Rattle.ijson_table.specs.declared.commands.Reply.{Reply}
 use Rattle.ijson_table.specs.Steps.{Step, Run}
 
--- a run with one more step is a run
+-- A run followed by a possible step is a run.
 pub Run-more : {V : Type 0} (pairs : List (List ℕ × V)) (c : ℕ) (commands : List (Command V)) (replies : List (Reply V))
     (mid : List (List ℕ × V)) (d : ℕ) (command : Command V) (reply : Reply V) (pairs' : List (List ℕ × V)) (c' : ℕ)
     → Run pairs c commands replies mid d → Step mid d command reply pairs' c'
@@ -16,7 +16,7 @@ Run-more pairs c (x ∷ xs) (y ∷ ys) mid d command reply pairs' c' r s =
 Run-more pairs c [] (y ∷ ys) mid d command reply pairs' c' r s = absurd r
 Run-more pairs c (x ∷ xs) [] mid d command reply pairs' c' r s = absurd r
 
--- a list mapped by the identity is the list
+-- Mapping the identity over a list returns the list.
 pub map-same : {X : Type 0} (xs : List X) → map (λ x. x) xs ≡ xs
 map-same [] = refl
 map-same (x ∷ xs) = ap (λ ys. x ∷ ys) (map-same xs)

@@ -1,4 +1,4 @@
--- How the contents of a table relate to its view.
+-- A table and its view have the same entries, the same length and the same capacity.
 use Rattle.std.proofs.Common.{◌≡◌, length, ap}
 use Rattle.ijson_table.specs.Placed.{Placed}
 

@@ -1,4 +1,4 @@
--- The number of slots that a lookup passes.
+-- The bound on the number of slots that a lookup passes.
 use Rattle.std.proofs.Common.{◌≡◌, ℕ, zero, suc, ◌+◌, ◌-◌, ◌<◌, ◌≤◌, inl, inr, arith, List, [], length, get_or, map, Option, Some, cond}
 use Rattle.std.proofs.Common.{leb, sym, ap, ◌∙◌}
 use Rattle.std.specs.Prelude.{sum}
@@ -15,16 +15,16 @@ use Rattle.ijson_table.proofs.arithmetic.Circular.{distance-seen, onward-onward,
 use Rattle.ijson_table.proofs.arithmetic.Counting.{covers, nearest, greatest-at}
 use Rattle.ijson_table.proofs.probing.ProbePath.{reached, displacement-some, from_empty, one_slot, in_list, home-key}
 
--- one for a key whose home slot is among the s + 1 slots that end at h
+-- 1 if the home slot of `key` is among the `s + 1` slots that end at `h`, else 0.
 abbrev near : (List ℕ → ℕ) → ℕ → ℕ → ℕ → List ℕ → ℕ
 near hash n h s key = cond (leb (distance n (home_of hash n key) h) s) 1 0
 
--- the keys near a home slot are counted one by one
+-- The sum of `near` over all keys is `homed`.
 homed-sum : (hash : List ℕ → ℕ) (n : ℕ) (keys : List (List ℕ)) (h s : ℕ) → sum (map (near hash n h s) keys) ≡ homed hash n keys h s
 unfolding homed
 homed-sum hash n keys h s = sum-map (near hash n h s) keys
 
--- a key near a home slot counts one
+-- If the home slot of key `i` is at most `s` slots before `h`, `near` is 1 for key `i`.
 near-one : (hash : List ℕ → ℕ) (n : ℕ) (keys : List (List ℕ)) (h s i : ℕ) → i < length keys
     → distance n (home_at n (map hash keys) i) h ≤ s → near hash n h s (get_or keys i []) ≡ 1
 near-one hash n keys h s i li le =
@@ -32,17 +32,18 @@ near-one hash n keys h s i li le =
     omega (arith, le, ap (λ x. distance n x h) (home-key hash n keys i li)) in
     grind (arith, nat_tests)
 
--- the home slot of an index is one of the slots
+-- The home slot of an index is below the number of slots.
 pub home-below : (n : ℕ) (hashes : List ℕ) (i : ℕ) → 0 < n → home_at n hashes i < n
 unfolding home_at
 home-below n hashes i some = mod-lt (get_or hashes i 0) some
 
--- once around the slots leads back
+-- The slot `n` slots after slot `h` of `n` is `h`.
 round-whole : (n h : ℕ) → h < n → onward n h n ≡ h
 unfolding onward
 round-whole n h lh = grind (arith, nat_tests)
 
--- each run of slots bounds the collision cluster from below
+-- For each number `s` below the number of slots, `homed` minus `s` is at most the size of the
+-- collision cluster.
 crowd-at : (hash : List ℕ → ℕ) (keys : List (List ℕ)) (c : ℕ) (key : List ℕ) (n : ℕ) → n ≡ slot_count c → (s : ℕ) → s < n
     → homed hash n keys (home_of hash n key) s - s ≤ crowd hash keys c key
 unfolding crowd
@@ -52,7 +53,8 @@ crowd-at hash keys c key n size s ls =
     omega (arith, here, ap (λ k. homed hash k keys (home_of hash k key) s) size)
 
 module _ (hashes : List ℕ) (slots : List (Option ℕ)) (t : IsTable hashes slots) where
-  -- the key of a resident of the run counts
+  -- The home slot of a resident in the run after the empty slot `e` is at most `s` slots before
+  -- `h`.
   counts : (e h s j i : ℕ) → e < length slots → h < length slots → displacement hashes slots e ≡ 0 → distance (length slots) e h ≡ s + 1
       → j + 1 < length slots → resident slots (onward (length slots) e (j + 1)) ≡ Some i
       → j + 1 ≤ s + distance (length slots) (home_at (length slots) hashes i) (onward (length slots) e (j + 1)) + 1
@@ -78,8 +80,8 @@ module _ (hash : List ℕ → ℕ) (keys : List (List ℕ)) (slots : List (Optio
   abbrev hashes : List ℕ
   hashes = map hash keys
 
-  -- from an empty slot on, a run without gaps up to h, and m more: at least s + m keys have their home slots in that
-  -- run up to h
+  -- If the `s + 1` slots after the empty slot `e` up to `h` have residents, and a probe from `h`
+  -- passes `m` slots, then at least `s + m` keys have their home slots among these `s + 1` slots.
   run : (e h s m : ℕ) → e < length slots → h < length slots → displacement hashes slots e ≡ 0 → distance (length slots) e h ≡ s + 1
       → ((j : ℕ) → 0 < j → j ≤ s + 1 → 0 < displacement hashes slots (onward (length slots) e j))
       → ((j : ℕ) → j < m → j + 1 ≤ displacement hashes slots (onward (length slots) h j))
@@ -131,7 +133,8 @@ module _ (hash : List ℕ → ℕ) (keys : List (List ℕ)) (slots : List (Optio
       ))
       in omega (arith, homed-sum hash n keys h s)
 
-  -- If a slot is empty, a lookup passes no more slots than the collision cluster of its key.
+  -- If a slot is empty, a lookup passes at most as many slots as the size of the collision cluster
+  -- of its key.
   pub within_crowd : (c : ℕ) → length slots ≡ slot_count c → (key : List ℕ) (m e : ℕ) → m ≤ length slots → e < length slots
       → displacement hashes slots e ≡ 0
       → Passed (displacement hashes slots) (length slots) (home_of hash (length slots) key) m → m ≤ crowd hash keys c key

@@ -1,4 +1,4 @@
--- Slots with the first pairs of a list, and one more.
+-- Slots with the indices of the first pairs of a list, and with the index of one more pair.
 use Rattle.std.proofs.Common.{◌≡◌, ℕ, ◌+◌, ◌<◌, List, [], ◌∷◌, ◌++◌, length, map, take, get_or, None, sym, ap}
 use Rattle.std.proofs.Common.{subst, ◌∙◌, le_of_lt, length-take-le}
 use Rattle.std.proofs.lemmas.List.{take_more}
@@ -9,7 +9,8 @@ use Rattle.ijson_table.specs.private.Insertion.{IsTableOf}
 use Rattle.ijson_table.proofs.pairs.PairsByKey.{distinct_pushed}
 use Rattle.ijson_table.proofs.probing.KeyHashes.{hashes, length-hashes, hashes-push}
 
--- slots with the first pairs depend on the first keys alone
+-- If `old` and `new` have the same first `n` keys, `FirstPlaced` for `old` implies `FirstPlaced`
+-- for `new`.
 pub same_first : {V : Type 0} {hash : List ℕ → ℕ} {old new : List (List ℕ × V)} {n : ℕ} {slots : List Slot} → FirstPlaced hash old n slots
     → keys_of (take n new) ≡ keys_of (take n old) → FirstPlaced hash new n slots
 same_first {hash = hash} {slots = slots} placed same = record {
@@ -18,11 +19,12 @@ same_first {hash = hash} {slots = slots} placed same = record {
 }
 
 module _ {V : Type 0} (hash : List ℕ → ℕ) (pairs : List (List ℕ × V)) (n : ℕ) (within : n < length pairs) where
-  -- there is a hash for each
+  -- The first `n` pairs have `n` hashes.
   pub first_hashes : length (hashes hash (take n pairs)) ≡ n
   first_hashes = length-hashes hash (take n pairs) ∙ length-take-le n pairs (le_of_lt within)
 
-  -- with the hash of the next key, there is one more of them
+  -- If pair `n` has a new key, and the slots are a table of the hashes of the first `n + 1` pairs,
+  -- `FirstPlaced` holds for `n + 1` pairs.
   pub next_placed : (pair : List ℕ × V) (h : ℕ) (new : List Slot) → pair ≡ get_or pairs n pair → h ≡ hash pair.0
       → at (take n pairs) pair.0 ≡ None → IsDistinct (keys_of (take n pairs)) → IsTableOf (hashes hash (take n pairs) ++ h ∷ []) new
       → FirstPlaced hash pairs (n + 1) new

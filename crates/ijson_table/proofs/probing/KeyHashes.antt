@@ -9,31 +9,31 @@ use Rattle.ijson_table.specs.Growth.{Grown}
 use Rattle.ijson_table.proofs.pairs.PairsByKey.{key_at, keys-length, keys-swap_out, set-value}
 
 module _ {V : Type 0} (hash : List ℕ → ℕ) where
-  -- the hash of each key, in order
+  -- The hash of each key, in order.
   abbrev pub hashes : List (List ℕ × V) → List ℕ
   hashes pairs = map hash (keys_of pairs)
 
-  -- the numbers of hashes and of pairs are equal
+  -- The number of hashes equals the number of pairs.
   pub length-hashes : (pairs : List (List ℕ × V)) → length (hashes pairs) ≡ length pairs
   length-hashes pairs = length-map (keys_of pairs) hash ∙ keys-length pairs
 
-  -- the hash of the key of a pair that was read
+  -- The hash of the key of pair `i` is element `i` of the hashes.
   pub hash_at : (pairs : List (List ℕ × V)) (i : ℕ) (pair : List ℕ × V) (h : ℕ) → i < length pairs → h ≡ hash (get_or pairs i pair).0
       → h ≡ get_or (hashes pairs) i 0
   hash_at pairs i pair h li is =
       is ∙ sym (get_or-map hash (keys_of pairs) i [] 0 (omega (arith, li, keys-length pairs)) ∙ ap hash (key_at pairs i pair li))
 
-  -- an appended pair adds its hash
+  -- Appending a pair appends the hash of its key.
   pub hashes-push : (pairs : List (List ℕ × V)) (key : List ℕ) (value : V)
       → hashes (pairs ++ (key, value) ∷ []) ≡ hashes pairs ++ hash key ∷ []
   hashes-push pairs key value = ap (map hash) (map-append (λ p. p.0) pairs ((key, value) ∷ [])) ∙ map-append hash (keys_of pairs) (key ∷ [])
 
-  -- another value keeps the hashes
+  -- Replacing the value of a pair keeps the hashes.
   pub hashes-set : (pairs : List (List ℕ × V)) (i : ℕ) (pair : List ℕ × V) (value : V) → i < length pairs → pair ≡ get_or pairs i pair
       → hashes (set pairs i (pair.0, value)) ≡ hashes pairs
   hashes-set pairs i pair value li e = ap (map hash) (ap keys_of (set-value pairs i pair value li e) ∙ keys-with_value pairs i value)
 
-  -- removing a pair and moving the last into its place does the same to the hashes
+  -- The hashes after `swap_out` are the old hashes after `swap_remove` at the same index.
   pub hashes-swap_out : (pairs : List (List ℕ × V)) (i : ℕ) → i < length pairs → hashes (swap_out pairs i) ≡ swap_remove (hashes pairs) i 0
   hashes-swap_out pairs i li =
       let keys : List (List ℕ) = keys_of pairs in
@@ -46,6 +46,6 @@ module _ {V : Type 0} (hash : List ℕ → ℕ) where
       ∙ (ap (λ h. take n (set (hashes pairs) i h)) (sym (get_or-map hash keys n [] 0 (omega (arith, li, keys-length pairs))))
       ∙ ap (λ k. take k (set (hashes pairs) i (get_or (hashes pairs) k 0))) (sym size))))
 
--- with spare capacity, there is no growth
+-- If the length is below the capacity, reserving one more entry does not grow.
 pub had_room : (len c : ℕ) → len < c → Grown len c 1 c
 had_room len c room = (grind (arith, nat_tests, room), λ less. absurd (omega (arith, less)))

@@ -1,4 +1,4 @@
--- Inspections of a slot for the key sought.
+-- The results of inspecting a slot for a key.
 use Rattle.std.proofs.Common.{◌≡◌, ◌≢◌, ℕ, ◌+◌, ◌<◌, inl, inr, Bool, true, false, List, [], length, map, get_or, Option}
 use Rattle.std.proofs.Common.{Some, refl, sym, ap, subst, ◌∙◌, ◌↔◌, IsTrue}
 use Rattle.std.specs.Cmp.Lexicographic.{bytes_decides}
@@ -18,7 +18,7 @@ use Rattle.ijson_table.proofs.pairs.KeyPositions.{same_key}
 use Rattle.ijson_table.proofs.slots.HashesInSlots.{hash-distance, hashes-at, position-at}
 use Rattle.ijson_table.proofs.probing.ProbePath.{displacement-some, displacement-none}
 
--- a slot that was read
+-- Holds if `there` has the resident of slot `p` and the kept part of its key's hash.
 pub record ReadAt (hashes : List ℕ) (slots : List Slot) (p : ℕ) (there : Slot) : Type 0 where
   pub position : position_in there ≡ resident (positions slots) p
   pub hash : HasHash (length slots) hashes there
@@ -30,7 +30,7 @@ read_at hashes slots p there have within is = record {
   hash = subst (HasHash (length slots) hashes) (sym is) (hashes-at (length slots) hashes slots p have within);
 }
 
--- a test that is true exactly if two strings are equal is `bytes_eq`
+-- A test that is true exactly if two keys are equal is `bytes_eq`.
 pub same_test : (r : Bool) (k key : List ℕ) → (IsTrue r ↔ (k ≡ key)) → r ≡ bytes_eq k key
 same_test r k key is = elim (same_key k key) [
   | inl yes_it ↦ let up = is.1 yes_it.1 in let other = yes_it.0 in cc (up, other)
@@ -40,15 +40,15 @@ same_test r k key is = elim (same_key k key) [
   ] refl
 ]
 
--- a key that passes the test is `key`
+-- If `is_key` is true for index `i`, key `i` is `key`.
 pub is_key-true : (keys : List (List ℕ)) (key : List ℕ) (i : ℕ) → is_key keys key i ≡ true → get_or keys i [] ≡ key
 is_key-true keys key i = (bytes_decides (get_or keys i []) key).0
 
--- a key that fails the test is not `key`
+-- If `is_key` is false for index `i`, key `i` is not `key`.
 pub is_key-false : (keys : List (List ℕ)) (key : List ℕ) (i : ℕ) → is_key keys key i ≡ false → get_or keys i [] ≢ key
 is_key-false keys key i e same = let yes_it = (bytes_decides (get_or keys i []) key).1 same in absurd (cc (yes_it, e))
 
--- if the kept parts of the hashes differ, so do the keys
+-- If the kept parts of the hashes of key `i` and `key` differ, `is_key` is false for index `i`.
 pub other_hash : (hash : List ℕ → ℕ) (keys : List (List ℕ)) (key : List ℕ) (i n a b : ℕ) → i < length keys
     → a ≡ kept n (get_or (map hash keys) i 0) → b ≡ kept n (hash key) → a ≢ b → false ≡ is_key keys key i
 other_hash hash keys key i n a b li at is apart = elim (is_key keys key i) as (λ t. is_key keys key i ≡ t → false ≡ t) [
@@ -56,7 +56,7 @@ other_hash hash keys key i n a b li at is apart = elim (is_key keys key i) as (�
   | false ↦ λ e. refl
 ] refl
 
--- if `same` agrees with `seeks` at the index in slot `p`, the inspection satisfies `LooksAt`
+-- If `same` agrees with `seeks` at the index in slot `p`, the inspection satisfies `LooksAt`.
 pub looks_at_slot : (n : ℕ) (hashes : List ℕ) (slots : List (Option ℕ)) (p : ℕ) (there : Slot) (same : Bool) (seeks : ℕ → Bool) (seen : Seen)
     → n ≡ length slots → position_in there ≡ resident slots p → HasHash n hashes there
     → SeenAs there n p same seen → ((i : ℕ) → position_in there ≡ Some i → same ≡ seeks i)
@@ -69,7 +69,7 @@ looks_at_slot n hashes slots p there same seeks (Resident i d sought) size at ha
   seen.2 ∙ is i seen.0,
 )
 
--- if `same` is true exactly if the slot's key is `key`, the inspection satisfies `Sees`
+-- If `same` is true exactly if the key of the resident is `key`, the inspection satisfies `Sees`.
 pub sees_slot : (n : ℕ) (hash : List ℕ → ℕ) (keys : List (List ℕ)) (slots : List (Option ℕ)) (p : ℕ) (there : Slot) (same : Bool)
     (key : List ℕ) (seen : Seen) → n ≡ length slots → position_in there ≡ resident slots p → HasHash n (map hash keys) there
     → SeenAs there n p same seen → ((i : ℕ) → position_in there ≡ Some i → IsTrue same ↔ (get_or keys i [] ≡ key))
@@ -82,7 +82,7 @@ sees_slot n hash keys slots p there same key (Resident i d sought) size at has s
       (λ yes_it. told.0 (sym seen.2 ∙ yes_it), λ e. seen.2 ∙ told.1 e),
     )
 
--- if `Sees` holds of an inspection for `key`, then `LooksAt` does, which a probe for `key` requires
+-- If an inspection for `key` satisfies `Sees`, it satisfies `LooksAt`, which a probe requires.
 pub sees_looks : (hash : List ℕ → ℕ) (keys : List (List ℕ)) (slots : List (Option ℕ)) (p : ℕ) (key : List ℕ) (seen : Seen)
     → Sees hash keys slots p key seen → LooksAt slots (displacement (map hash keys) slots) (is_key keys key) p seen
 sees_looks hash keys slots p key Empty s = (s, displacement-none (map hash keys) slots p s)

@@ -1,4 +1,4 @@
--- The inspections of a lookup.
+-- Bounds on the inspections of a lookup.
 use Rattle.std.proofs.Common.{◌≡◌, ◌≢◌, ℕ, zero, suc, ◌+◌, ◌<◌, ◌≤◌, inl, inr, arith, List, length, map, get_or, replicate, Option, Some}
 use Rattle.std.proofs.Common.{None, refl, ap, subst}
 use Rattle.std.specs.Prelude.{sum}
@@ -15,31 +15,31 @@ use Rattle.ijson_table.proofs.probing.ProbePath.{reached, displacement-none, one
 use Rattle.ijson_table.proofs.probing.CrowdBound.{within_crowd}
 use Rattle.ijson_table.proofs.slots.Residents.{some_position}
 
--- a list of n ones
+-- The list of `n` ones.
 pub ones : ℕ → List ℕ
 ones n = replicate n 1
 
--- their sum is n
+-- The sum of `n` ones is `n`.
 pub sum-ones : (n : ℕ) → sum (ones n) ≡ n
 unfolding ones
 sum-ones zero = refl
 sum-ones (suc n) = omega (arith, sum_by-cons (λ x. x) 1 (replicate n 1), sum-ones n)
 
--- each of them is one
+-- Each element of `ones n` is 1.
 pub one-at : (n i : ℕ) → i < n → get_or (ones n) i 0 ≡ 1
 unfolding ones
 one-at zero i li = absurd (omega arith)
 one-at (suc n) zero li = refl
 one-at (suc n) (suc i) li = one-at n i (omega arith)
 
--- their number is n
+-- The length of `ones n` is `n`.
 pub length-ones : (n : ℕ) → length (ones n) ≡ n
 unfolding ones
 length-ones zero = refl
 length-ones (suc n) = ap suc (length-ones n)
 
 module _ (hashes : List ℕ) (slots : List (Option ℕ)) (t : IsTable hashes slots) where
-  -- the residents that were passed are different indices
+  -- The number of slots that a probe passes is at most the number of indices.
   pub within_list : (h m : ℕ) → h < length slots → m ≤ length slots → Passed (displacement hashes slots) (length slots) h m
       → m ≤ length hashes
   within_list h m lh lm passed =
@@ -56,7 +56,7 @@ module _ (hashes : List ℕ) (slots : List (Option ℕ)) (t : IsTable hashes slo
       (who.0, omega (arith, length-ones (length hashes), li), who.1, omega (arith, one-at (length hashes) who.0 li)))
       in omega (arith, sum-ones (length hashes))
 
-  -- in a full table, the number of slots is at most that of indices
+  -- If all slots have residents, the number of slots is at most the number of indices.
   filled : ((p : ℕ) → p < length slots → resident slots p ≢ None) → length slots ≤ length hashes
   filled full =
       let R : ℕ → ℕ → Type 0 = λ i j. resident slots j ≡ Some i in
@@ -72,7 +72,8 @@ module _ (hash : List ℕ → ℕ) (keys : List (List ℕ)) (slots : List (Optio
   abbrev hashes : List ℕ
   hashes = map hash keys
 
-  -- a lookup inspects each slot that it passes, and at most one more
+  -- If a lookup passes `m` slots and inspects at most `m + 1` slots, its inspections are within the
+  -- bounds.
   bounded_by : (c : ℕ) → length slots ≡ slot_count c → (key : List ℕ) (m looks : ℕ) → 0 < looks → m ≤ length slots
       → looks ≤ length slots → looks ≤ m + 1
       → Passed (displacement hashes slots) (length slots) (home_of hash (length slots) key) m → IsBounded hash keys slots c key looks
@@ -92,13 +93,14 @@ module _ (hash : List ℕ → ℕ) (keys : List (List ℕ)) (slots : List (Optio
     some_look = λ _. some;
   }
 
-  -- a lookup ends after the slots that it passes
+  -- If a lookup ends at the slot after the `m` slots that it passes, its inspections are within the
+  -- bounds.
   pub bounded_there : (c : ℕ) → length slots ≡ slot_count c → (key : List ℕ) (m looks : ℕ) → m < length slots → looks ≡ m + 1
       → Passed (displacement hashes slots) (length slots) (home_of hash (length slots) key) m → IsBounded hash keys slots c key looks
   bounded_there c size key m looks lm is passed =
       bounded_by c size key m looks (omega arith) (omega arith) (omega arith) (omega arith) passed
 
-  -- a lookup passes all slots
+  -- If a lookup passes all slots, its inspections are within the bounds.
   pub bounded_all : (c : ℕ) → length slots ≡ slot_count c → (key : List ℕ) (looks : ℕ) → looks ≡ length slots
       → Passed (displacement hashes slots) (length slots) (home_of hash (length slots) key) (length slots)
       → IsBounded hash keys slots c key looks
@@ -112,11 +114,12 @@ module _ (hash : List ℕ → ℕ) (keys : List (List ℕ)) (slots : List (Optio
     }
   ]
 
--- a probe that has passed no slot
+-- Every probe passes 0 slots.
 pub passed_none : (displacements : ℕ → ℕ) (n h : ℕ) → Passed displacements n h 0
 passed_none displacements n h = record { far = λ j lj. absurd (omega arith) }
 
--- one slot more
+-- If a probe passes `m` slots, and the displacement of the next slot is at least `m + 1`, the probe
+-- passes `m + 1` slots.
 pub passed_more : (displacements : ℕ → ℕ) (n h m : ℕ) → Passed displacements n h m → m + 1 ≤ displacements (onward n h m)
     → Passed displacements n h (m + 1)
 passed_more displacements n h m passed far = record {

@@ -1,4 +1,4 @@
--- The results of the end of a probe for a key.
+-- The consequences of each end of a probe for a key.
 use Rattle.std.proofs.Common.{◌≡◌, ◌≢◌, ℕ, ◌%◌, ◌<◌, ◌≤◌, inl, inr, arith, Bool, List, [], ◌∷◌, ◌++◌, length, map, get_or}
 use Rattle.std.proofs.Common.{Option, Some, sym, ap, subst, ◌∙◌}
 use Rattle.std.proofs.lemmas.List.{length-map}
@@ -25,17 +25,17 @@ module _ (hashes : List ℕ) (slots : List (Option ℕ)) (t : IsTable hashes slo
   abbrev longer : List ℕ
   longer = hashes ++ hash ∷ []
 
-  -- the home slot of the new index is that of its hash
+  -- The home slot of the appended index is `hash % n`.
   home-last : (n : ℕ) → home_at n longer (length hashes) ≡ hash % n
   unfolding home_at
   home-last n = ap (λ x. x % n) (get_or-append_seam hashes hash [] 0)
 
-  -- the residents are displaced equally with one more hash last in the list
+  -- Appending a hash keeps the displacement of each slot.
   displacement-longer : (p : ℕ) → p < length slots → displacement longer slots p ≡ displacement hashes slots p
   displacement-longer p lp = displacement-as hashes longer slots p
       (λ i e. get_or-append hashes (hash ∷ []) 0 i (in_list hashes slots t p i lp e))
 
-  -- a probe for one more ends at a slot that accepts it
+  -- A probe for the appended index ends at a slot at which the index may be inserted.
   pub may_last : (p m : ℕ) → m < length slots → p ≡ onward (length slots) (hash % length slots) m
       → Passed (displacement hashes slots) (length slots) (hash % length slots) m
       → displacement hashes slots p ≤ m → MayStand longer slots (length hashes) p
@@ -76,17 +76,17 @@ module _ (hash : List ℕ → ℕ) (keys : List (List ℕ)) (slots : List (Optio
   abbrev home : ℕ
   home = home_of hash (length slots) key
 
-  -- a resident is an index of the list
+  -- Each resident is below the number of keys.
   listed : (p i : ℕ) → p < length slots → resident slots p ≡ Some i → i < length keys
   listed p i lp there = omega (arith, in_list hashes slots t p i lp there, length-map keys hash)
 
-  -- the residents that were passed have other keys
+  -- The residents that the probe passed have keys other than `key`.
   other_keys : (m : ℕ) → 0 < length slots → m ≤ length slots → PassedOthers slots seeks home m → (j i : ℕ) → j < m
       → resident slots (onward (length slots) home j) ≡ Some i → get_or keys i [] ≢ key
   other_keys m some lm others j i lj there =
       is_key-false keys key i (others j i lj there)
 
-  -- the index that it found, or that the key is missing
+  -- The end of a probe for `key` satisfies `LookUpEnds`.
   pub look_up_ends : IsDistinct keys → 0 < length slots → (end : Probed) (looks : ℕ)
       → Ends slots (displacement hashes slots) home seeks looks end → LookUpEnds hashes keys slots (hash key) key end
   look_up_ends distinct some (Found i p) looks ends =
@@ -115,14 +115,14 @@ module _ (hash : List ℕ → ℕ) (keys : List (List ℕ)) (slots : List (Optio
         (displacement-none hashes slots e.0 e.2) ends.0,
   )
 
-  -- a bound on the inspections
+  -- The inspections of a probe for `key` are within the bounds.
   pub bounded : (c : ℕ) → length slots ≡ slot_count c → (end : Probed) (looks : ℕ)
       → Ends slots (displacement hashes slots) home seeks looks end → IsBounded hash keys slots c key looks
   bounded c size (Found i p) looks ends = bounded_there hash keys slots t c size key ends.0 looks ends.1.within ends.1.looked ends.1.passed
   bounded c size (Vacant p) looks ends = bounded_there hash keys slots t c size key ends.0 looks ends.1.within ends.1.looked ends.1.passed
   bounded c size Full looks ends = bounded_all hash keys slots t c size key looks ends.2 ends.0
 
--- the index that a lookup found is that of the key
+-- If the end of a lookup satisfies `LookUpEnds`, the index that it found is the index of `key`.
 pub found_at-ends : (hs : List ℕ) (keys : List (List ℕ)) (slots : List (Option ℕ)) (hash : ℕ) (key : List ℕ) (end : Probed)
     → LookUpEnds hs keys slots hash key end → found_at end ≡ position_of keys key
 found_at-ends hs keys slots hash key (Found i p) told = sym told

@@ -1,4 +1,4 @@
--- The walk of a lookup.
+-- The slots that a lookup passes.
 use Rattle.std.proofs.Common.{◌≡◌, ◌≢◌, ℕ, zero, suc, ◌+◌, ◌-◌, ◌%◌, ◌<◌, ◌≤◌, ◌⊎◌, inl, inr, arith, List, [], length, map, get_or, Option}
 use Rattle.std.proofs.Common.{Some, None, refl, sym, ap, subst, ◌∙◌}
 use Rattle.std.proofs.lemmas.Bool.Decides.{nat_tests}
@@ -12,29 +12,30 @@ use Rattle.ijson_table.proofs.arithmetic.Circular.{onward-below, onward-zero, af
 use Rattle.ijson_table.proofs.slots.Residents.{stands, stands_once, times-some}
 
 module _ (hashes : List ℕ) (slots : List (Option ℕ)) where
-  -- a resident is displaced by its distance from home plus one
+  -- If slot `p` has resident `i`, its displacement is the distance of `i` from its home slot, plus
+  -- one.
   pub displacement-some : (p i : ℕ) → resident slots p ≡ Some i
       → displacement hashes slots p ≡ distance (length slots) (home_at (length slots) hashes i) p + 1
   unfolding displacement
   displacement-some p i e = ap (displaced (length slots) hashes p) e
 
-  -- an empty slot is not displaced
+  -- The displacement of an empty slot is 0.
   pub displacement-none : (p : ℕ) → resident slots p ≡ None → displacement hashes slots p ≡ 0
   unfolding displacement
   displacement-none p e = ap (displaced (length slots) hashes p) e
 
-  -- if `o` has a positive displacement, it is a resident
+  -- If the displacement of `o` is positive, `o` is a resident.
   someone : (p : ℕ) (o : Option ℕ) → 0 < displaced (length slots) hashes p o → (i : ℕ) × (o ≡ Some i)
   someone p None h = absurd (omega (arith, h))
   someone p (Some i) h = (i, refl)
 
-  -- a slot with a displacement has a resident
+  -- A slot with a positive displacement has a resident.
   pub reached : (p : ℕ) → 0 < displacement hashes slots p → (i : ℕ) × (resident slots p ≡ Some i)
   unfolding displacement
   reached p h = someone p (resident slots p) h
 
-  -- on the way from a home slot, each slot has a resident that is as far from its own home slot, up to one that has
-  -- reached that distance
+  -- If the resident of `p` is displaced at least as far as a key with home slot `h` would be in
+  -- `p`, the same holds for each slot on the way from `h` to `p`.
   pub on_the_way : IsOrdered hashes slots → (h p : ℕ) → h < length slots → p < length slots
       → distance (length slots) h p + 1 ≤ displacement hashes slots p
       → (k m : ℕ) → m + k ≡ distance (length slots) h p → m + 1 ≤ displacement hashes slots (onward (length slots) h m)
@@ -51,7 +52,7 @@ module _ (hashes : List ℕ) (slots : List (Option ℕ)) where
       after-onward (length slots) h m lh (omega arith) in
       omega (arith, ordered (onward (length slots) h m) here, ap (displacement hashes slots) next)
 
-  -- if slot `e` has displacement 0, the slot `k` slots after `e` has displacement at most `k`
+  -- If slot `e` has displacement 0, the slot `k` slots after `e` has a displacement of at most `k`.
   pub from_empty : IsOrdered hashes slots → (e : ℕ) → e < length slots → displacement hashes slots e ≡ 0
       → (k : ℕ) → k < length slots → displacement hashes slots (onward (length slots) e k) ≤ k
   from_empty ordered e le none zero lk = omega (arith, ap (displacement hashes slots) (onward-zero (length slots) e le))
@@ -63,8 +64,8 @@ module _ (hashes : List ℕ) (slots : List (Option ℕ)) where
       let same : onward (length slots) e (k + 1) ≡ onward (length slots) e (suc k) = ap (onward (length slots) e) (omega arith) in
       omega (arith, ordered (onward (length slots) e k) here, ap (displacement hashes slots) next, ap (displacement hashes slots) same)
 
--- If a probe from the home slot of an index in a slot ends at an empty slot, at a resident closer to its home slot, or
--- after all slots, it passed the index.
+-- If index `i` is in a slot, a probe from the home slot of `i` passes `i` before it can end as
+-- `Vacant` or `Full`.
 pub passed_by : (hashes : List ℕ) (slots : List (Option ℕ)) → IsOrdered hashes slots → (i p m : ℕ) → p < length slots
     → resident slots p ≡ Some i
     → (length slots ≤ m) ⊎ (displacement hashes slots (onward (length slots) (home_at (length slots) hashes i) m) ≤ m)
@@ -84,34 +85,34 @@ passed_by hashes slots ordered i p m lp there ended =
       ])
     ]
 
--- each index is in a slot
+-- Each index of a table is in a slot.
 pub placed_at : (hashes : List ℕ) (slots : List (Option ℕ)) → IsTable hashes slots → (i : ℕ) → i < length hashes
     → (p : ℕ) × (p < length slots) × (resident slots p ≡ Some i)
 placed_at hashes slots t i li =
     let one : times i slots ≡ 1 = grind (arith, nat_tests, t.placed i) in
     stands i slots (omega arith)
 
--- no index is in two slots
+-- In a table, slots with the same resident are equal.
 pub one_slot : (hashes : List ℕ) (slots : List (Option ℕ)) → IsTable hashes slots → (p q i : ℕ) → p < length slots → q < length slots
     → resident slots p ≡ Some i → resident slots q ≡ Some i → p ≡ q
 one_slot hashes slots t p q i lp lq ep eq =
     let one : times i slots ≤ 1 = grind (arith, nat_tests, t.placed i) in
     stands_once i slots p q one lp lq ep eq
 
--- a resident is an index of the list
+-- Each resident of a table is below the number of hashes.
 pub in_list : (hashes : List ℕ) (slots : List (Option ℕ)) → IsTable hashes slots → (p i : ℕ) → p < length slots → resident slots p ≡ Some i
     → i < length hashes
 in_list hashes slots t p i lp e =
     let some = times-some i slots p lp e in
     grind (arith, nat_tests, t.placed i, some)
 
--- the home slot of index `i` is the home slot of key `i`
+-- The home slot of index `i` is the home slot of key `i`.
 pub home-key : (hash : List ℕ → ℕ) (n : ℕ) (keys : List (List ℕ)) (i : ℕ) → i < length keys
     → home_at n (map hash keys) i ≡ home_of hash n (get_or keys i [])
 unfolding home_at
 home-key hash n keys i li = ap (λ x. x % n) (get_or-map hash keys i [] 0 li)
 
--- If a lookup ends at an empty slot, at a resident closer to its home slot, or after all slots, the key is in no slot.
+-- If a lookup passes no resident with `key` and ends as `Vacant` or `Full`, `key` is missing.
 pub absent : (hash : List ℕ → ℕ) (keys : List (List ℕ)) (slots : List (Option ℕ)) → IsTable (map hash keys) slots → (key : List ℕ) (m : ℕ)
     → 0 < length slots
     → Passed (displacement (map hash keys) slots) (length slots) (home_of hash (length slots) key) m

@@ -1,4 +1,4 @@
--- The steps of a probe for a key and of its insertion there, as they follow from the slots at which they end.
+-- The steps of probing for a key and inserting it, computed from the slots at which they end.
 use Rattle.std.proofs.Common.{◌≡◌, ℕ, ◌+◌, ◌<◌, ◌≤◌, Bool, List, length, map, Option, None, arith, ap, sym, subst, ◌∙◌, inl, inr}
 use Rattle.std.proofs.lemmas.Bool.{cases_lt}
 use Rattle.std.proofs.lemmas.Nat.{mod_below}
@@ -13,14 +13,14 @@ use Rattle.ijson_table.proofs.arithmetic.Circular.{distance-onward, distance-res
 use Rattle.ijson_table.proofs.probing.ProbePath.{displacement-none}
 use Rattle.ijson_table.proofs.slots.SlotChanges.{changes-none}
 
--- How a probe from home slot h ended at slot p of n, after these inspections.
+-- Holds if a probe from home slot `h` ended at slot `p` of `n` after `looks` inspections.
 pub record EndedAt (n h looks p : ℕ) : Type 0 where
   pub there : p < n
   pub looked : distance n h p + 1 ≡ looks
   pub few : looks ≤ n
 
 module _ (slots : List (Option ℕ)) (displacements : ℕ → ℕ) (h : ℕ) (seeks : ℕ → Bool) (home : h < length slots) where
-  -- if a probe ends after m slots, m is the distance from its home slot
+  -- A probe that satisfies `EndsAt` satisfies `EndedAt`.
   ended_after : (looks p m : ℕ) → EndsAt slots displacements h seeks looks p m → EndedAt (length slots) h looks p
   ended_after looks p m e =
       let n = length slots in
@@ -30,16 +30,16 @@ module _ (slots : List (Option ℕ)) (displacements : ℕ → ℕ) (h : ℕ) (se
         few = omega (arith, e.within, e.looked);
       }
 
-  -- a probe that found the target ended at its slot
+  -- A probe that ended as `Found` satisfies `EndedAt` for the slot of its target.
   pub ended_found : (looks at p : ℕ) → Ends slots displacements h seeks looks (Found at p) → EndedAt (length slots) h looks p
   ended_found looks at p ends = ended_after looks p ends.0 ends.1
 
-  -- a probe without the target ended at an empty slot
+  -- A probe that ended as `Vacant` satisfies `EndedAt` for the vacant slot.
   pub ended_vacant : (looks p : ℕ) → Ends slots displacements h seeks looks (Vacant p) → EndedAt (length slots) h looks p
   ended_vacant looks p ends = ended_after looks p ends.0 ends.1
 
-  -- An empty slot is no closer to the home slot than the end of the probe: the way to it from the home slot passes that
-  -- end.
+  -- If a probe ended as `Vacant` at slot `p`, the distance from its home slot to an empty slot is
+  -- the distance from its home slot to `p` plus the distance from `p` to the empty slot.
   pub through : (looks p last : ℕ) → Ends slots displacements h seeks looks (Vacant p) → last < length slots → displacements last ≡ 0
       → distance (length slots) h p + distance (length slots) p last ≡ distance (length slots) h last
   through looks p last ends there empty =
@@ -59,7 +59,8 @@ module _ (hash : List ℕ → ℕ) (keys : List (List ℕ)) (slots : List (Optio
   abbrev home : ℕ
   home = home_of hash (length slots) key
 
-  -- A new key that is inserted at the end of its probe: the last slot written determines the steps.
+  -- For a missing key inserted at the end of its probe, `CountsSteps` holds if `steps` is at least
+  -- the distance from the home slot to the last slot written, plus 2.
   pub counts_new : (looks p last far steps : ℕ) (new : List (Option ℕ))
       → Walks hash keys slots key looks (Vacant p) → last < length slots → resident slots last ≡ None
       → changes slots new ≤ distance (length slots) p last + 1 → far ≡ distance (length slots) home last
@@ -76,7 +77,8 @@ module _ (hash : List ℕ → ℕ) (keys : List (List ℕ)) (slots : List (Optio
         counted = omega (arith, ended.looked, way, few, away_is, enough);
       }
 
-  -- A key that is found: the slot of its pair determines the steps.
+  -- For a key that was found, `CountsSteps` holds if `steps` is at least the distance from its home
+  -- slot to its slot, plus 1.
   pub counts_found : (looks at p far steps : ℕ) → Walks hash keys slots key looks (Found at p)
       → far ≡ distance (length slots) home p → far + 1 ≤ steps → CountsSteps hash keys key slots slots steps
   counts_found looks at p far steps walks away_is enough =

@@ -12,25 +12,26 @@ use Rattle.ijson_table.proofs.probing.ProbePath.{displacement-some}
 use Rattle.ijson_table.proofs.probing.CrowdBound.{home-below}
 use Rattle.ijson_table.proofs.shifting.SlotWrites.{displacement-set_other, displacement-set_same, ordered_but}
 
--- Slots with a gap at p: some slots in order, without the resident of p.
+-- Holds if the slots are ordered slots from which the resident of slot `p` is removed.
 pub record HasGap (hashes : List ℕ) (slots : List (Option ℕ)) (p : ℕ) : Type 0 where
   pub whole : List (Option ℕ)
   pub is : slots ≡ set whole p None
   pub within : p < length whole
   pub ordered : IsOrdered hashes whole
 
--- The sum over the slots, a measure for the termination of the shift.
+-- The sum of `f` at the numbers below `n`. For the displacements, this sum decreases with each step
+-- of the backward shift.
 pub total : (ℕ → ℕ) → ℕ → ℕ
 total f zero = 0
 total f (suc n) = total f n + f n
 
--- totals of equal values are equal
+-- Functions that agree below `n` have the same sum.
 total-same : (f g : ℕ → ℕ) (n : ℕ) → ((q : ℕ) → q < n → f q ≡ g q) → total f n ≡ total g n
 unfolding total
 total-same f g zero h = refl
 total-same f g (suc n) h = let rest = total-same f g n (λ q lq. h q (omega arith)) in omega (arith, rest, h n (omega arith))
 
--- if one value differs, the totals differ by as much
+-- If two functions differ only at `p`, their sums differ as much as their values at `p`.
 total-one : (f g : ℕ → ℕ) (n p : ℕ) → p < n → ((q : ℕ) → q ≢ p → g q ≡ f q) → total g n + f p ≡ total f n + g p
 unfolding total
 total-one f g zero p lp h = absurd (omega arith)
@@ -39,7 +40,7 @@ total-one f g (suc n) p lp h = elim (cases_eq p n) [
   | inr other ↦ omega (arith, total-one f g n p (omega arith) h, h n (λ e. other (sym e)))
 ]
 
--- the sum of all displacements
+-- The sum of all displacements.
 pub all_displacements : List ℕ → List (Option ℕ) → ℕ
 all_displacements hashes slots = total (displacement hashes slots) (length slots)
 
@@ -71,11 +72,12 @@ module _ (hashes : List ℕ) (slots : List (Option ℕ)) (p : ℕ) (gap : HasGap
   off : (q : ℕ) → q ≢ p → d q ≡ full q
   off q ne = ap (λ s. displacement hashes s q) gap.is ∙ displacement-set_other hashes gap.whole p q None ne
 
-  -- the shift ends before an empty slot, and before a resident at its home slot
+  -- If the slot after the gap is empty or its resident is in its home slot, the slots are ordered.
   pub gap_closed : d p' ≤ 1 → IsOrdered hashes slots
   gap_closed end = ordered_but full d n p ordered off (omega (arith, end)) (λ q lq ne to. omega (arith, hollow))
 
-  -- A step of the shift: the resident of the next slot, which is not at home, moves to the gap, and leaves one.
+  -- In a step of the shift, the resident `k` of the next slot, which is not in its home slot, moves
+  -- into the gap.
   module _ (k : ℕ) (there : resident slots p' ≡ Some k) (far : 1 < d p') where
     abbrev mid : List (Option ℕ)
     mid = set slots p (Some k)
@@ -95,7 +97,8 @@ module _ (hashes : List ℕ) (slots : List (Option ℕ)) (p : ℕ) (gap : HasGap
     moves : p' ≢ p
     moves = λ e. omega (arith, ap d e, hollow, far)
 
-    -- the displacements of the resident, before and after
+    -- The displacement of the resident before the step. `nearer` states that the step decreases it
+    -- by 1.
     was : d p' ≡ distance n (home_at n hashes k) p' + 1
     was = displacement-some hashes slots p' k there
 
@@ -130,7 +133,7 @@ module _ (hashes : List ℕ) (slots : List (Option ℕ)) (p : ℕ) (gap : HasGap
       ordered = λ q lq. omega (arith, in_order q (omega (arith, lq, size_mid)), ap (λ m. d_mid (after m q)) size_mid);
     }
 
-    -- the count of each index is unchanged
+    -- A step of the shift keeps the number of slots that hold index `i`.
     pub times-moved_back : (i : ℕ) → times i last ≡ times i slots
     times-moved_back i = omega (
       arith,
@@ -140,7 +143,7 @@ module _ (hashes : List ℕ) (slots : List (Option ℕ)) (p : ℕ) (gap : HasGap
       ap (one_if i) (get_or-set_other slots p p' (Some k) None moves ∙ there),
     )
 
-    -- the total of the displacements is less
+    -- A step of the shift decreases the sum of the displacements.
     pub shift_falls : all_displacements hashes last < all_displacements hashes slots
     unfolding all_displacements
     shift_falls = omega (

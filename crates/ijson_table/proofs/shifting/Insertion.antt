@@ -1,4 +1,4 @@
--- The conditions for insertion into a table of the first indices.
+-- The conditions for inserting an index into a table.
 use Rattle.std.proofs.Common.{◌≡◌, ◌≢◌, ℕ, zero, suc, ◌-◌, ◌<◌, ◌≤◌, ◌⊎◌, inl, inr, arith, List, [], ◌∷◌, length, set, Option, Some}
 use Rattle.std.proofs.Common.{None, refl, sym, ap, ◌∙◌, get_or-set_other}
 use Rattle.std.specs.Prelude.{sum}
@@ -16,13 +16,13 @@ use Rattle.ijson_table.proofs.arithmetic.Counting.{covers}
 use Rattle.ijson_table.proofs.slots.Residents.{times-some, stands_once}
 use Rattle.ijson_table.proofs.probing.LookCount.{ones, sum-ones, one-at, length-ones}
 
--- if each slot has a resident, so has each slot but the first
+-- If all slots have residents, so do all slots of `Some i ∷ slots`.
 later : (i : ℕ) (slots : List (Option ℕ)) → ((p : ℕ) → p < length slots → (j : ℕ) × (resident slots p ≡ Some j)) → (p : ℕ)
     → p < length (Some i ∷ slots) → (j : ℕ) × (resident (Some i ∷ slots) p ≡ Some j)
 later i slots full zero lp = (i, refl)
 later i slots full (suc p) lp = full p (omega arith)
 
--- an empty slot, or none
+-- A slot is empty, or all slots have residents.
 empty_or_full : (slots : List (Option ℕ)) → ((e : ℕ) × (e < length slots) × (resident slots e ≡ None)) ⊎
     ((p : ℕ) → p < length slots → (i : ℕ) × (resident slots p ≡ Some i))
 empty_or_full [] = inr (λ p lp. absurd (omega arith))
@@ -32,7 +32,8 @@ empty_or_full (Some i ∷ slots) = elim (empty_or_full slots) [
   | inr full ↦ inr (later i slots full)
 ]
 
--- If the slots hold only first indices, none of them twice, and one of them not at all, there is an empty slot.
+-- If at least `count` slots hold only indices below `count`, each at most once, and lack index `k`,
+-- then a slot is empty.
 pub some_empty : (slots : List (Option ℕ)) (count k : ℕ) → ((i : ℕ) → times i slots ≤ below count i) → k < count → times k slots ≡ 0
     → count ≤ length slots → HasEmpty slots
 some_empty slots count k few lk none fits = elim (empty_or_full slots) [
@@ -64,7 +65,7 @@ some_empty slots count k few lk none fits = elim (empty_or_full slots) [
       ))
 ]
 
--- the slot at which the walk ends accepts the index
+-- Index `i` may be inserted at the slot at which the probe for `i` ends.
 pub may_end : (hashes : List ℕ) (slots : List (Option ℕ)) (i m : ℕ) → m < length slots → home_at (length slots) hashes i < length slots
     → Passed (displacement hashes slots) (length slots) (home_at (length slots) hashes i) m
     → displacement hashes slots (onward (length slots) (home_at (length slots) hashes i) m) ≤ m
@@ -86,7 +87,7 @@ may_end hashes slots i m lm lh passed stop =
       ];
     }
 
--- a probe does not wrap around if a slot is empty
+-- If a slot is empty, a probe does not pass all slots.
 pub not_round : (displacements : ℕ → ℕ) (n h e : ℕ) → h < n → e < n → displacements e ≡ 0 → Passed displacements n h n → ⊥
 not_round displacements n h e lh le none passed =
     let there : onward n h (distance n h e) ≡ e = onward-distance n h e lh le in

@@ -1,4 +1,4 @@
--- A list with one item removed, and later ones moved down.
+-- A list after an item is removed and later items are moved down.
 use Rattle.std.proofs.Common.{◌≡◌, ℕ, suc, ◌+◌, ◌<◌, inl, inr, arith, List, [], ◌++◌, length, get_or, map, ltb, sym, ap, subst, ◌∙◌}
 use Rattle.std.proofs.Common.{if◌then◌else◌, None}
 use Rattle.std.specs.List.{remove}
@@ -11,11 +11,11 @@ use Rattle.ijson_table.proofs.pairs.DistinctKeys.{apart, distinct}
 use Rattle.ijson_table.proofs.pairs.KeyPositions.{position-none}
 use Rattle.ijson_table.proofs.pairs.PairsByKey.{keys-length}
 
--- the old index of an item after another one was removed
+-- The old index of the item that is at index `i` after the item at index `gone` is removed.
 abbrev pub raise : ℕ → ℕ → ℕ
 raise gone i = (if ltb i gone then i else i + 1)
 
--- items after the removed one are at one index less
+-- After a removal, the item at index `i` is the old item at index `raise gone i`.
 pub get_or-remove : {X : Type 0} (xs : List X) (gone i : ℕ) (d : X) → gone < length xs
     → get_or (remove xs gone) i d ≡ get_or xs (raise gone i) d
 get_or-remove xs gone i d lg = elim (cases_lt i gone) [
@@ -25,16 +25,16 @@ get_or-remove xs gone i d lg = elim (cases_lt i gone) [
       get_or-remove_above xs gone d i ge lg ∙ ap (λ n. get_or xs n d) (sym same)
 ]
 
--- mapping and removing commute
+-- Mapping and removing commute.
 pub map-remove : {X Y : Type 0} (f : X → Y) (xs : List X) (i : ℕ) → map f (remove xs i) ≡ remove (map f xs) i
 map-remove f xs i = map-append f _ _ ∙ (λ k. sym (take-map f i xs) k ++ sym (drop-map f (suc i) xs) k)
 
 module _ {V : Type 0} where
-  -- the keys after a pair is removed
+  -- Removing pair `i` removes key `i`.
   pub keys-shift_out : (pairs : List (List ℕ × V)) (i : ℕ) → keys_of (shift_out pairs i) ≡ remove (keys_of pairs) i
   keys-shift_out pairs i = map-remove (λ pair. pair.0) pairs i
 
-  -- the keys stay distinct after a pair is removed
+  -- Removing a pair keeps the keys distinct.
   pub distinct_shifted : (pairs : List (List ℕ × V)) (i : ℕ) → IsDistinct (keys_of pairs) → i < length pairs
       → IsDistinct (keys_of (shift_out pairs i))
   distinct_shifted pairs i d li =
@@ -47,7 +47,7 @@ module _ {V : Type 0} where
       (sym (get_or-remove keys i j [] within) ∙ (e ∙ get_or-remove keys i k [] within)) in
       grind (arith, nat_tests, same)))
 
-  -- the removed key is missing
+  -- After a pair is removed, its key is missing.
   pub shifted_lacks : (pairs : List (List ℕ × V)) (i : ℕ) → IsDistinct (keys_of pairs) → i < length pairs
       → at (shift_out pairs i) (get_or (keys_of pairs) i []) ≡ None
   shifted_lacks pairs i d li =

@@ -23,15 +23,15 @@ use Rattle.ijson_table.proofs.arithmetic.Circular.{after-below}
 use Rattle.ijson_table.proofs.pairs.DistinctKeys.{apart, distinct}
 use Rattle.ijson_table.proofs.shifting.ListShiftOut.{raise, get_or-remove, map-remove}
 
--- the index of an item that is moved, and then moved to where it was
+-- Moving an item from `from` to `to` and back keeps each index.
 moved-back : (from to i : ℕ) → moved to from (moved from to i) ≡ i
 moved-back from to i = grind (arith, nat_tests)
 
--- the list after the item x at an index is moved
+-- The list after the item `x` at index `from` is moved to index `to`.
 abbrev pub relocated : {X : Type 0} → List X → ℕ → ℕ → X → List X
 relocated xs from to x = insert (remove xs from) to x
 
--- mapping and inserting commute
+-- Mapping and inserting commute.
 map-insert : {X Y : Type 0} (f : X → Y) (xs : List X) (i : ℕ) (x : X) → map f (insert xs i x) ≡ insert (map f xs) i (f x)
 map-insert f xs i x = map-append f _ _ ∙ (λ k. sym (take-map f i xs) k ++ f x ∷ sym (drop-map f i xs) k)
 
@@ -49,7 +49,7 @@ module _ {X : Type 0} (xs : List X) (from to : ℕ) (x : X) (lf : from < length 
   pub length-relocated : length (relocated xs from to x) ≡ length xs
   length-relocated = omega (arith, length-insert rest to x fits, length-remove xs from lf)
 
-  -- each item by its new index
+  -- After the move, each item is at its `moved` index.
   pub get_or-relocated : (i : ℕ) (d : X) → x ≡ get_or xs from d → get_or (relocated xs from to x) (moved from to i) d ≡ get_or xs i d
   get_or-relocated i d is = elim (cases_eq i from) [
     | inl same ↦
@@ -69,7 +69,7 @@ module _ {X : Type 0} (xs : List X) (from to : ℕ) (x : X) (lf : from < length 
         ]
   ]
 
-  -- the item that is moved to the end may be removed there
+  -- Removing an item after it is moved to the last index equals removing it before the move.
   pub last_removed : to + 1 ≡ length xs → remove (relocated xs from to x) to ≡ rest
   last_removed last =
       let end : to ≡ length rest = omega (arith, last, length-remove xs from lf) in
@@ -78,7 +78,7 @@ module _ {X : Type 0} (xs : List X) (from to : ℕ) (x : X) (lf : from < length 
       ∙ remove-append_right rest (x ∷ []) (length rest) (length rest) refl (omega arith)
       ∙ ap (λ n. rest ++ remove (x ∷ []) n) none ∙ append-nil rest
 
--- the keys stay distinct
+-- Moving a pair keeps the keys distinct.
 pub distinct_relocated : {V : Type 0} (pairs : List (List ℕ × V)) (from to : ℕ) (pair : List ℕ × V) → IsDistinct (keys_of pairs)
     → from < length (keys_of pairs) → to < length (keys_of pairs) → pair.0 ≡ get_or (keys_of pairs) from []
     → IsDistinct (keys_of (relocated pairs from to pair))
@@ -94,11 +94,11 @@ distinct_relocated pairs from to pair d lf lt is =
     (sym (came j) ∙ (e ∙ came k)) in
     sym (moved-back to from j) ∙ ap (moved from to) same ∙ moved-back to from k))
 
--- a resident after its entry is moved
+-- The resident `o` after the item at index `from` is moved to index `to`.
 abbrev moved_resident : ℕ → ℕ → Option ℕ → Option ℕ
 moved_resident from to o = option_map (moved from to) o
 
--- the code of a slot changes as its index
+-- The renumbered code of a slot has the moved index of the slot.
 position-coded : (from to code : ℕ) → coded_position (moved (from + 1) (to + 1) code) ≡ moved_resident from to (coded_position code)
 position-coded from to zero = let none : moved (from + 1) (to + 1) 0 ≡ 0 = grind (arith, nat_tests) in ap coded_position none
 position-coded from to (suc i) =
@@ -109,14 +109,14 @@ positions-renumbered : (from to : ℕ) (slots : List Slot) → positions (map (r
 positions-renumbered from to [] = refl
 positions-renumbered from to (slot ∷ slots) = λ k. position-coded from to slot.code k ∷ positions-renumbered from to slots k
 
--- an item that stays at its index changes no slot
+-- If `from` equals `to`, renumbering changes no slot.
 pub not_moved : (from to : ℕ) (slots : List Slot) → from ≡ to → slots ≡ map (renumbered from to) slots
 not_moved from to [] same = refl
 not_moved from to (slot ∷ slots) same =
     let code : slot.code ≡ moved (from + 1) (to + 1) slot.code = grind (arith, nat_tests, same) in
     λ k. (record { code = code k; hash = slot.hash }) ∷ not_moved from to slots same k
 
--- a new index is counted as the old one was
+-- A moved resident is index `i` exactly if the resident is the index that moves to `i`.
 one_if-moved : (from to i : ℕ) (o : Option ℕ) → one_if i (moved_resident from to o) ≡ one_if (moved to from i) o
 one_if-moved from to i None = refl
 one_if-moved from to i (Some k) = grind (arith, nat_tests)
@@ -131,7 +131,7 @@ times-moved from to i (o ∷ os) = omega (
   times-moved from to i os,
 )
 
--- a new index comes from an old one
+-- If a moved resident is index `i`, the resident is an index that moves to `i`.
 moved_from : (from to i : ℕ) (o : Option ℕ) → moved_resident from to o ≡ Some i → (k : ℕ) × (o ≡ Some k) × (moved from to k ≡ i)
 moved_from from to i None e = cc
 moved_from from to i (Some k) e = (k, refl, cc)
@@ -149,7 +149,7 @@ module _ (hashes : List ℕ) (from to : ℕ) (lf : from < length hashes) (lt : t
   same_hash : (k : ℕ) → get_or hashes' (moved from to k) 0 ≡ get_or hashes k 0
   same_hash k = get_or-relocated hashes from to (get_or hashes from 0) lf lt k 0 refl
 
-  -- each resident is displaced as before
+  -- Moving an item keeps the displacement of each resident.
   displaced-moved : (n p : ℕ) (o : Option ℕ) → displaced n hashes' p (moved_resident from to o) ≡ displaced n hashes p o
   unfolding home_at
   displaced-moved n p None = refl
@@ -162,7 +162,8 @@ module _ (hashes : List ℕ) (from to : ℕ) (lf : from < length hashes) (lt : t
       ∙ (ap (displaced (length ps) hashes' p) (get_or-map (moved_resident from to) ps p None None lp)
       ∙ displaced-moved (length ps) p (resident ps p))
 
-  -- the slots hold the new indices
+  -- If `Holds` is true of the slots before the move, it is true of the renumbered slots after the
+  -- move.
   holds-moved : (pending : Option ℕ) → Holds hashes (below (length hashes)) pending ps
       → Holds hashes' (below (length hashes')) (moved_resident from to pending) (positions slots')
   holds-moved pending was =
@@ -193,7 +194,7 @@ module _ (hashes : List ℕ) (from to : ℕ) (lf : from < length hashes) (lt : t
       rw (size, get_or-map (renumbered from to) slots p blank blank lp')
       (has_hash (length slots) (get_or slots p blank) (hashes-at (length slots) hashes slots p have lp')))
 
-  -- the slots are a table of the hashes in their new order
+  -- If the slots are a table, the renumbered slots are a table of the hashes in their new order.
   pub moved_table : IsTableOf hashes slots → IsTableOf hashes' slots'
   moved_table was =
       let held = holds-moved None (record { ordered = was.table.ordered; placed = λ i. omega (arith, was.table.placed i) }) in
@@ -202,7 +203,8 @@ module _ (hashes : List ℕ) (from to : ℕ) (lf : from < length hashes) (lt : t
         hashes_are = have_hashes was.hashes_are;
       }
 
-  -- without the index of the item, they are such a table without its new one
+  -- If the slots are a table without index `from`, the renumbered slots are a table without index
+  -- `to`.
   pub moved_but : IsTableBut hashes from slots → IsTableBut hashes' to slots'
   moved_but was =
       let there : moved from to from ≡ to = grind (arith, nat_tests) in

@@ -1,4 +1,4 @@
--- The effect of a removal.
+-- The effect of a removal on the slots.
 use Rattle.std.proofs.Common.{◌≡◌, ◌≢◌, ℕ, ◌+◌, ◌%◌, ◌<◌, ◌≤◌, inl, inr, arith, List, [], length, get_or, set, Option, Some, None}
 use Rattle.std.proofs.Common.{refl, sym, subst, ap, ◌∙◌}
 use Rattle.std.proofs.lemmas.Bool.Decides.{nat_tests}
@@ -20,21 +20,22 @@ use Rattle.ijson_table.proofs.shifting.ListSwapRemove.{length-swap_remove, swap_
 use Rattle.ijson_table.proofs.shifting.SlotWrites.{displacement-set_same, displacement-set_other}
 use Rattle.ijson_table.proofs.probing.ProbePath.{displacement-some, displacement-none}
 
--- hashes that agree there displace equally
+-- Lists of hashes that agree at the index in `o` displace `o` equally.
 displaced-as : (n : ℕ) (hashes hashes' : List ℕ) (p : ℕ) (o : Option ℕ) → ((i : ℕ) → o ≡ Some i → get_or hashes' i 0 ≡ get_or hashes i 0)
     → displaced n hashes' p o ≡ displaced n hashes p o
 unfolding home_at
 displaced-as n hashes hashes' p None same = refl
 displaced-as n hashes hashes' p (Some i) same = ap (λ x. distance n (x % n) p + 1) (same i refl)
 
--- a slot is displaced equally by hashes that agree there
+-- Lists of hashes that agree at the resident of slot `p` displace the resident equally.
 pub displacement-as : (hashes hashes' : List ℕ) (slots : List (Option ℕ)) (p : ℕ)
     → ((i : ℕ) → resident slots p ≡ Some i → get_or hashes' i 0 ≡ get_or hashes i 0)
     → displacement hashes' slots p ≡ displacement hashes slots p
 unfolding displacement
 displacement-as hashes hashes' slots p same = displaced-as (length slots) hashes hashes' p (resident slots p) same
 
--- other hashes that agree at each resident keep the order
+-- If the slots are ordered for `hashes`, they are ordered for every list of hashes that agrees with
+-- `hashes` at each resident.
 pub ordered-as : (hashes hashes' : List ℕ) (slots : List (Option ℕ)) → IsOrdered hashes slots
     → ((p i : ℕ) → p < length slots → resident slots p ≡ Some i → get_or hashes' i 0 ≡ get_or hashes i 0) → IsOrdered hashes' slots
 ordered-as hashes hashes' slots ordered same p lp = omega (
@@ -44,7 +45,7 @@ ordered-as hashes hashes' slots ordered same p lp = omega (
   displacement-as hashes hashes' slots (after (length slots) p) (λ i. same (after (length slots) p) i (after-below (length slots) p lp)),
 )
 
--- indices of one hash have one home slot
+-- Indices with the same hash have the same home slot.
 home-as : (n : ℕ) (hashes hashes' : List ℕ) (i j : ℕ) → get_or hashes' i 0 ≡ get_or hashes j 0 → home_at n hashes' i ≡ home_at n hashes j
 unfolding home_at
 home-as n hashes hashes' i j e = ap (λ x. x % n) e
@@ -53,11 +54,11 @@ module _ (hashes : List ℕ) (gone : ℕ) (slots : List Slot) (left : IsTableBut
   abbrev ps : List (Option ℕ)
   ps = positions slots
 
-  -- each other index is in a slot,
+  -- After the removal, each index other than `gone` is in a slot.
   pub stands_still : (i : ℕ) → i < length hashes → i ≢ gone → (p : ℕ) × (p < length ps) × (resident ps p ≡ Some i)
   stands_still i li ne = let one : times i ps ≡ 1 = grind (arith, nat_tests, left.holds.placed i) in stands i ps (omega arith)
 
-  -- only the other indices are in slots
+  -- After the removal, each resident is an index other than `gone`.
   pub stays : (p k : ℕ) → p < length ps → resident ps p ≡ Some k → (k < length hashes) × (k ≢ gone)
   stays p k lp e = let some = times-some k ps p lp e in (
     grind (arith, nat_tests, left.holds.placed k, some),
@@ -68,14 +69,14 @@ module _ (hashes : List ℕ) (gone : ℕ) (slots : List Slot) (left : IsTableBut
     as_before : (p k : ℕ) → p < length ps → resident ps p ≡ Some k → get_or hashes' k 0 ≡ get_or hashes k 0
     as_before p k lp e = let who = stays p k lp e in same k who.0 who.1
 
-    -- the slots are in order with another hash of the removed index
+    -- If `hashes'` differs from `hashes` only at `gone`, the slots are ordered for `hashes'`.
     pub but_ordered : IsOrdered hashes' ps
     but_ordered = ordered-as hashes hashes' ps left.holds.ordered as_before
 
     pub but_hashes : HaveHashes (length slots) hashes' slots
     but_hashes = hashes-as (length slots) hashes hashes' slots left.hashes_are as_before
 
-  -- the last pair was removed
+  -- If `gone` is the last index, the slots are a table of the remaining hashes.
   pub last_out : gone + 1 ≡ length hashes → IsTableOf (remove hashes gone) slots
   last_out last =
       let size = length-remove hashes gone (omega arith) in
@@ -89,7 +90,7 @@ module _ (hashes : List ℕ) (gone : ℕ) (slots : List Slot) (left : IsTableBut
         hashes_are = but_hashes (remove hashes gone) same;
       }
 
-  -- another was removed, and the last one, at slot p, gets its number
+  -- If `gone` is not the last index, the last index, in slot `p`, is renumbered to `gone`.
   module _ (p last : ℕ) (is : last + 1 ≡ length hashes) (li : gone < last) (lp : p < length slots) (there : resident ps p ≡ Some last) where
     abbrev hashes' : List ℕ
     hashes' = swap_remove hashes gone 0
@@ -121,7 +122,7 @@ module _ (hashes : List ℕ) (gone : ℕ) (slots : List Slot) (left : IsTableBut
           ∙ displacement-as hashes hashes' ps q (λ k e. others q k lq' other e)
     ]
 
-    -- the stored hash of the last one is that of the index
+    -- After the removal, the hash in slot `p` is the kept hash of index `gone`.
     pub own_hash : (slot : Slot) → position_in slot ≡ Some gone → slot.hash ≡ (get_or slots p blank).hash → HasHash (length slots) hashes' slot
     own_hash slot at same = has_own_hash (length slots) hashes' slot gone at (same
         ∙ (hashes-at (length slots) hashes slots p left.hashes_are lp last (sym (position-at slots p (position_in (get_or slots p blank)) lp refl) ∙ there)
@@ -149,7 +150,7 @@ module _ (hashes : List ℕ) (gone : ℕ) (slots : List Slot) (left : IsTableBut
               (hashes-put (length slots) hashes hashes' slots p slot left.hashes_are (own_hash slot at same) (λ q k lq' other e. others q k lq' other e));
         }
 
--- an index in no slot is not counted
+-- If all slots are empty, each index occurs 0 times.
 pub times-none : (i : ℕ) (slots : List (Option ℕ)) → ((p : ℕ) → p < length slots → resident slots p ≡ None) → times i slots ≡ 0
 times-none i slots empty = elim (cases_lt 0 (times i slots)) [
   | inl some ↦
@@ -159,7 +160,7 @@ times-none i slots empty = elim (cases_lt 0 (times i slots)) [
   | inr none ↦ omega arith
 ]
 
--- empty slots are a table of nothing
+-- Empty slots are a table of an empty list of hashes.
 pub empty_is_table : (slots : List (Option ℕ)) → ((p : ℕ) → p < length slots → resident slots p ≡ None) → IsTable [] slots
 empty_is_table slots empty = record {
   ordered = λ p lp. let up = after-below (length slots) p lp in

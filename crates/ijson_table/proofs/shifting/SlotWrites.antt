@@ -1,4 +1,4 @@
--- Invariants of the shifts of an insertion and of a removal.
+-- Displacements and order after a slot is written.
 use Rattle.std.proofs.Common.{◌≡◌, ◌≢◌, ℕ, ◌+◌, ◌<◌, ◌≤◌, inl, inr, arith, List, length, set, Option, Some, None, sym, ap, ◌∙◌}
 use Rattle.std.proofs.Common.{get_or-set_other, get_or-set_same}
 use Rattle.std.proofs.lemmas.Bool.Decides.{nat_tests}
@@ -14,20 +14,21 @@ use Rattle.ijson_table.proofs.probing.ProbePath.{displacement-some, from_empty}
 use Rattle.ijson_table.proofs.probing.CrowdBound.{home-below}
 
 module _ (hashes : List ℕ) (slots : List (Option ℕ)) where
-  -- a slot that is written is displaced by the index written
+  -- The displacement of a written slot is the displacement of the new resident.
   pub displacement-set_same : (p : ℕ) (o : Option ℕ) → p < length slots
       → displacement hashes (set slots p o) p ≡ displaced (length slots) hashes p o
   unfolding displacement
   displacement-set_same p o lp = ap (λ n. displaced n hashes p (resident (set slots p o) p)) (length-set slots p o)
       ∙ ap (displaced (length slots) hashes p) (get_or-set_same slots p o None lp)
 
-  -- the others are displaced as before
+  -- Writing a slot keeps the displacement of every other slot.
   pub displacement-set_other : (p q : ℕ) (o : Option ℕ) → q ≢ p → displacement hashes (set slots p o) q ≡ displacement hashes slots q
   unfolding displacement
   displacement-set_other p q o ne = ap (λ n. displaced n hashes q (resident (set slots p o) q)) (length-set slots p o)
       ∙ ap (displaced (length slots) hashes q) (get_or-set_other slots p q o None ne)
 
--- values that change at one slot stay in order if they are in order there
+-- If values change only at slot `p`, and are in order before and after `p`, they are in order at
+-- each slot.
 pub ordered_but : (f g : ℕ → ℕ) (n p : ℕ) → ((q : ℕ) → q < n → f (after n q) ≤ f q + 1) → ((q : ℕ) → q ≢ p → g q ≡ f q)
     → g (after n p) ≤ g p + 1 → ((q : ℕ) → q < n → q ≢ p → after n q ≡ p → g p ≤ g q + 1) → (q : ℕ) → q < n → g (after n q) ≤ g q + 1
 ordered_but f g n p ordered same next before q lq = elim (cases_eq q p) [
@@ -38,7 +39,8 @@ ordered_but f g n p ordered same next before q lq = elim (cases_eq q p) [
   ]
 ]
 
--- a slot may be written with a greater displacement, if it is at most one more than that of the previous slot
+-- Writing a slot keeps the slots ordered if the displacement of the slot does not decrease and
+-- exceeds the displacement of the previous slot by at most 1.
 raised : (hashes : List ℕ) (slots : List (Option ℕ)) (p : ℕ) (o : Option ℕ) → p < length slots → IsOrdered hashes slots
     → displacement hashes slots p ≤ displacement hashes (set slots p o) p
     → ((q : ℕ) → q < length slots → after (length slots) q ≡ p → displacement hashes (set slots p o) p ≤ displacement hashes slots q + 1)
@@ -59,8 +61,8 @@ raised hashes slots p o lp ordered more bound q lq =
       ap (λ k. d (after k q)) size,
     )
 
--- The pending index is put where it is at least as far from its home slot as the resident, and not too far. Then that
--- resident is pending.
+-- If the pending index may be inserted at slot `p`, writing it to `p` keeps `Holds`, with the old
+-- resident of `p` as the pending index.
 pub put_down : (hashes : List ℕ) (wanted : ℕ → ℕ) (slots : List (Option ℕ)) (k p : ℕ) → p < length slots
     → Holds hashes wanted (Some k) slots
     → MayStand hashes slots k p → Holds hashes wanted (resident slots p) (set slots p (Some k))
@@ -73,12 +75,12 @@ put_down hashes wanted slots k p lp held may =
       placed = λ i. omega (arith, times-set i slots p (Some k) lp, held.placed i);
     }
 
--- only a single slot follows itself, and then there is no other
+-- If slot `p` is the slot after itself, every slot is `p`.
 apart_of : (n e p : ℕ) → p < n → e < n → after n p ≡ p → (e ≢ p) → ⊥
 unfolding after
 apart_of n e p lp le same ne = ne (grind (arith, nat_tests))
 
--- If some slot is empty, the index that was taken up may be put into the next slot.
+-- If a slot is empty, the old resident of a written slot may be inserted at the next slot.
 pub taken_up : (hashes : List ℕ) (slots : List (Option ℕ)) (k j p e : ℕ) → p < length slots → e < length slots → IsOrdered hashes slots
     → displacement hashes slots e ≡ 0 → resident slots p ≡ Some j
     → displacement hashes slots p ≤ distance (length slots) (home_at (length slots) hashes k) p + 1

@@ -1,4 +1,4 @@
--- The slot at which a probe for a missing key ends accepts its index.
+-- An index may be inserted at the slot at which its probe ends.
 use Rattle.std.proofs.Common.{◌≡◌, ◌%◌, ◌<◌, ℕ, List, length, get_or, arith, ap, sym, subst, ◌∙◌}
 use Rattle.std.proofs.Math.Nat.{mod-lt}
 use Rattle.ijson_table.specs.declared.slot.Slot.{Slot}
@@ -10,13 +10,13 @@ use Rattle.ijson_table.proofs.shifting.Insertion.{may_end}
 use Rattle.ijson_table.proofs.slots.HashesInSlots.{positions-length, displacement-in}
 use Rattle.ijson_table.proofs.arithmetic.Circular.{onward-below}
 
--- the home slot of an index by the hash of its key
+-- The home slot of an index is the hash of its key modulo the number of slots.
 pub home_here : (hashes : List ℕ) (slots : List Slot) (position hash : ℕ) → hash ≡ get_or hashes position 0
     → hash % length slots ≡ home_at (length (positions slots)) hashes position
 unfolding home_at
 home_here hashes slots position hash is = ap (λ x. x % length slots) is ∙ ap (λ n. get_or hashes position 0 % n) (sym (positions-length slots))
 
--- the slot at which the probe for it ended accepts the index
+-- Index `position` may be inserted at the slot at which the probe for its hash ends.
 pub may_stand : (hashes : List ℕ) (slots : List Slot) (position hash p : ℕ) → hash ≡ get_or hashes position 0
     → HaveHashes (length slots) hashes slots → IsVacancy (displacement_in slots) (length slots) (hash % length slots) p
     → MayStand hashes (positions slots) position p

@@ -5,17 +5,18 @@ use Rattle.std.proofs.lemmas.Bool.Decides.{nat_tests}
 use Rattle.ijson_table.specs.private.KeptHash.{narrow_slots, kept}
 use Rattle.ijson_table.proofs.arithmetic.Reciprocal.{mod-more}
 
--- the kept part gives the same home slot
+-- A hash and its kept part have the same home slot.
 pub kept-home : (n h : ℕ) → kept n h % n ≡ h % n
 unfolding kept
 kept-home n h = elim (leb n narrow_slots) as (λ b. (if b then h % (n * 256) else h) % n ≡ h % n) [ true ↦ mod-more h n | false ↦ refl ]
 
--- among many slots the kept part is the whole hash
+-- In a table of more than `narrow_slots` slots, the kept part of a hash is the full hash.
 pub kept-wide : (n h : ℕ) → narrow_slots < n → kept n h ≡ h
 unfolding kept
 kept-wide n h wide = grind (arith, nat_tests, wide)
 
--- among few slots the kept part is a remainder
+-- In a table of at most `narrow_slots` slots, the kept part of a hash is its remainder by
+-- `n * 256`.
 pub kept-narrow : (n h : ℕ) → n ≤ narrow_slots → kept n h ≡ h % (n * 256)
 unfolding kept
 kept-narrow n h few = grind (arith, nat_tests, few)

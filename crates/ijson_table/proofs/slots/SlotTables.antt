@@ -1,4 +1,4 @@
--- Slots that are a table of hashes, and one more index in them.
+-- Slots that are a table of hashes, and the insertion of one more index.
 use Rattle.std.proofs.Common.{◌≡◌, ℕ, ◌+◌, ◌<◌, ◌^◌, arith, List, [], ◌∷◌, ◌++◌, length, get_or, Option, Some, None, refl}
 use Rattle.std.proofs.Common.{sym, ap, subst, ◌∙◌, length-append}
 use Rattle.std.specs.List.{All}
@@ -18,14 +18,14 @@ use Rattle.ijson_table.proofs.shifting.Removal.{empty_is_table, ordered-as}
 use Rattle.ijson_table.proofs.slots.Residents.{times-some}
 use Rattle.ijson_table.proofs.probing.ProbePath.{in_list}
 
--- empty slots are a table of no hashes
+-- Empty slots are a table of an empty list of hashes.
 pub empty_table : (slots : List Slot) → All (λ slot. position_in slot ≡ None) slots → IsTableOf [] slots
 empty_table slots empty = record {
   table = empty_is_table (positions slots) (all_empty slots empty);
   hashes_are = hashes-none (length slots) [] slots empty;
 }
 
--- in a table without keys, a slot is empty
+-- In a table without keys, each slot that is read is empty.
 nothing_there : (slots : List Slot) → IsTableOf [] slots → (p : ℕ) → p < length slots → (read : Option ℕ)
     → read ≡ position_in (get_or slots p blank) → position_in (get_or slots p blank) ≡ None
 nothing_there slots are p lp None e = sym e
@@ -33,24 +33,24 @@ nothing_there slots are p lp (Some i) e =
     let one = times-some i (positions slots) p (omega (arith, lp, positions-length slots)) (position-at slots p (Some i) lp e) in
     absurd (grind (arith, nat_tests, one, are.table.placed i))
 
--- in a table without keys, all slots are empty
+-- In a table without keys, all slots are empty.
 pub each_empty : (slots : List Slot) → IsTableOf [] slots → All (λ slot. position_in slot ≡ None) slots
 each_empty slots are = All-from_get_or (λ slot. position_in slot ≡ None) slots blank
     (λ p lp. nothing_there slots are p lp (position_in (get_or slots p blank)) refl)
 
--- a slot is empty if there are more slots than hashes
+-- If a table has more slots than hashes, a slot is empty.
 pub left_empty : (hashes : List ℕ) (slots : List (Option ℕ)) → IsTable hashes slots → length hashes < length slots → HasEmpty slots
 left_empty hashes slots table room = some_empty slots (length hashes + 1) (length hashes) (λ i. grind (arith, nat_tests, table.placed i))
     (omega arith) (grind (arith, nat_tests, table.placed (length hashes))) (omega (arith, room))
 
 module _ (hashes : List ℕ) (slots : List Slot) (are : IsTableOf hashes slots) (position hash : ℕ) (next : position ≡ length hashes)
     (room : position < length slots) where
-  -- another hash after them changes none of them
+  -- Appending a hash keeps the hash of each resident.
   same : (p i : ℕ) → p < length (positions slots) → resident (positions slots) p ≡ Some i
       → get_or (hashes ++ hash ∷ []) i 0 ≡ get_or hashes i 0
   same p i lp e = get_or-append hashes (hash ∷ []) 0 i (in_list hashes (positions slots) are.table p i lp e)
 
-  -- one more index may be inserted into them
+  -- The next index may be inserted into the slots.
   pub accepts : (part : ℕ) → part ≡ kept (length slots) hash → length slots < 2 ^ 64 → Accepts (hashes ++ hash ∷ []) slots position part
   accepts part is limited = record {
     fits = omega (arith, room, limited);
@@ -60,7 +60,7 @@ module _ (hashes : List ℕ) (slots : List Slot) (are : IsTableOf hashes slots) 
     empty = left_empty hashes (positions slots) are.table (omega (arith, next, room, positions-length slots));
   }
 
-  -- one more index was inserted into the slots
+  -- After the next index is inserted, the slots are a table of the hashes and the new hash.
   pub pushed : (new : List Slot) → length new ≡ length slots
       → Holds (hashes ++ hash ∷ []) (with_one (positions slots) position) None (positions new)
       → HaveHashes (length slots) (hashes ++ hash ∷ []) new → IsTableOf (hashes ++ hash ∷ []) new

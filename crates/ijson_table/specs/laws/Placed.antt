@@ -1,4 +1,5 @@
--- The code of a store with slots, and its invariant for other pairs with the same keys.
+-- `Placed` has a code. The invariant of a table is a proposition, and depends on the entries only
+-- by their keys.
 use Rattle.std.specs.Prelude.{◌≡◌, ℕ, List, map, length, Option, refl}
 use Rattle.std.specs.Coded.{Coded, code_by, coded×, coded_list, coded_ℕ, coded_option}
 use Rattle.std.proofs.Common.{subst}
@@ -43,7 +44,8 @@ IsPlaced-prop hash pairs capacity slots x y =
       size = size_prop x.size y.size i;
     }
 
--- the invariant for other pairs with the same keys
+-- If `ps` and `qs` have the same keys and the same length, the invariant for `ps` implies the
+-- invariant for `qs`.
 pub placed_along : {X Y : Type 0} (hash : List ℕ → ℕ) (ps : List (List ℕ × X)) (qs : List (List ℕ × Y)) (capacity : ℕ) (slots : List Slot)
     → keys_of ps ≡ keys_of qs → length ps ≡ length qs → IsPlaced hash ps capacity slots → IsPlaced hash qs capacity slots
 placed_along hash ps qs capacity slots keys lengths placed = record {

@@ -1,4 +1,5 @@
--- Examples computed by hand, with the length of the string as hash.
+-- Examples of collision clusters, displacements and removals, computed by hand. The hash of a
+-- string is its length.
 use Rattle.std.specs.Prelude.{◌≡◌, ℕ, List, [], ◌∷◌, length, refl, Some, None, map}
 use Rattle.ijson_table.specs.Crowd.{crowd, homed, distance}
 use Rattle.ijson_table.specs.Slots.{displacement, home_at}
@@ -7,7 +8,7 @@ use Rattle.ijson_table.specs.Store.{position_of, swap_out, keys_of}
 abbrev by_length : List ℕ → ℕ
 by_length key = length key
 
--- a, bb, c, dd
+-- The keys a, bb, c and dd.
 abbrev four : List (List ℕ)
 four = (97 ∷ []) ∷ (98 ∷ 98 ∷ []) ∷ (99 ∷ []) ∷ (100 ∷ 100 ∷ []) ∷ []
 
@@ -19,12 +20,12 @@ crowd_of_zz : crowd by_length four 4 (122 ∷ 122 ∷ []) ≡ 3
 unfolding crowd homed distance
 crowd_of_zz = refl
 
--- without slots, there is no collision cluster
+-- Without slots, the size of a collision cluster is 0.
 crowd_of_none : crowd by_length [] 0 (97 ∷ []) ≡ 0
 unfolding crowd homed distance
 crowd_of_none = refl
 
--- empty, a, c, bb, dd
+-- The first slot is empty, and the next slots hold a, c, bb and dd.
 displacements : map (displacement (map by_length four) (None ∷ Some 0 ∷ Some 2 ∷ Some 1 ∷ Some 3 ∷ []))
     (0 ∷ 1 ∷ 2 ∷ 3 ∷ 4 ∷ []) ≡ 0 ∷ 1 ∷ 2 ∷ 2 ∷ 3 ∷ []
 unfolding displacement home_at distance

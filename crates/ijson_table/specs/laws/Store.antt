@@ -1,4 +1,5 @@
--- `IsDistinct` is a proposition; the code of a store; another value keeps the keys.
+-- Laws of pair stores. `IsDistinct` is a proposition. A store has a code. Writing a value keeps the
+-- keys.
 use Rattle.std.specs.Prelude.{◌≡◌, ℕ, zero, suc, List, [], ◌∷◌, refl}
 use Rattle.std.specs.Coded.{Coded, code_by, coded_list, coded_ℕ, coded×, →_prop, ×_prop, Unit-prop}
 use Rattle.std.proofs.Common.{ap}

@@ -2,7 +2,7 @@
 use Rattle.std.specs.Prelude.{ℕ, ◌+◌, cond, eqb, List, [], ◌∷◌, Option}
 use Rattle.std.specs.Option.{option_eq}
 
--- the number of slots whose resident differs, appeared or disappeared
+-- The number of slots whose resident differs between the old and the new list.
 abbrev pub changes : List (Option ℕ) → List (Option ℕ) → ℕ
 changes [] slots = 0
 changes (o ∷ old) [] = 0

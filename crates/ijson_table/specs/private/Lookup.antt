@@ -1,4 +1,4 @@
--- How the lookup of a key ends.
+-- The possible ends of a lookup.
 use Rattle.std.specs.Prelude.{◌≡◌, ℕ, ◌<◌, Bool, List, [], ◌∷◌, ◌++◌, length, get_or, Option, Some, None}
 use Rattle.std.specs.Str.{bytes_eq}
 use Rattle.ijson_table.specs.declared.index.probe.Probed.{Probed}
@@ -6,18 +6,19 @@ use Rattle.ijson_table.specs.declared.index.probe.Probed.TheVariants.{Found, Vac
 use Rattle.ijson_table.specs.Store.{position_of}
 use Rattle.ijson_table.specs.private.Holds.{HasEmpty, MayStand}
 
--- whether the key at an index is this one
+-- Whether the key at index `i` is `key`.
 abbrev pub is_key : List (List ℕ) → List ℕ → ℕ → Bool
 is_key keys key i = bytes_eq (get_or keys i []) key
 
--- the index that was found, or none
+-- The index that a probe found, or `None`.
 abbrev pub found_at : Probed → Option ℕ
 found_at (Found at p) = Some at
 found_at (Vacant p) = None
 found_at Full = None
 
--- The index of the key; or the key is missing, with a slot in which it may be put as the last one of the list, or with
--- no empty slot.
+-- Holds if the lookup of `key` may end this way. `Found` has the index of the key. `Vacant` means
+-- that the key is missing, and has the slot at which it may be inserted as the last key. `Full`
+-- means that the key is missing and no slot is empty.
 abbrev pub LookUpEnds : List ℕ → List (List ℕ) → List (Option ℕ) → ℕ → List ℕ → Probed → Type 0
 LookUpEnds hashes keys slots hash key (Found at p) = position_of keys key ≡ Some at
 LookUpEnds hashes keys slots hash key (Vacant p) =

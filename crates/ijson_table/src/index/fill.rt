@@ -1,4 +1,6 @@
-//! Filling slots from hashed indices sorted by home slot: each is written once, and no slot is inspected.
+//! Filling of slots from hashed indices sorted by home slot.
+//!
+//! Each index is written once, and slots are not inspected.
 
 ghost use Rattle.std.specs.Prelude.{◌≡◌, ℕ, ◌+◌, ◌-◌, ◌*◌, ◌^◌, ◌<◌, ◌≤◌, [], List, length, map, OnOk};
 ghost use Rattle.ijson_table.specs.Growth.{capacity_limit};
@@ -18,7 +20,8 @@ use ijson_number::Looks;
 use ijson_string::IString;
 use std::alloc::{AllocError, Global};
 
-/// Returns the number of hashed indices that pass the end of the slots if they are written from the first slot on.
+/// Returns the number of hashed indices that wrap around if they are written from the first slot
+/// on.
 fn wrapped_count(sorted: &[HashedIndex], modulus: Modulus) -> usize
     requires few { modulus.count ≤ 2 ^ 60 }
     requires limited { length sorted.now ≤ 2 ^ 60 }
@@ -31,14 +34,15 @@ fn wrapped_count(sorted: &[HashedIndex], modulus: Modulus) -> usize
     next.saturating_sub(modulus.count)
 }
 
-/// Fills empty slots, enough for all of them, from hashed indices sorted by home slot.
+/// Fills empty slots from hashed indices sorted by home slot.
 ///
-/// Each is written to its home slot, or to the slot after the previous one if that is further on. Those that pass the
-/// end take the first slots.
+/// There must be a slot for each index. Each index is written to its home slot, or to the slot
+/// after the previous index if that slot is later. Indices past the last slot wrap around to the
+/// first slots.
 ///
 /// # Cost
 ///
-/// Linear in their number, whatever their home slots.
+/// Linear in the number of indices, for all home slots.
 fn fill(slots: &mut Slots, sorted: &[HashedIndex], modulus: Modulus)
     requires counted { modulus.count ≡ length slots.old }
     requires few { length slots.old ≤ 2 ^ 60 }
@@ -60,9 +64,10 @@ fn fill(slots: &mut Slots, sorted: &[HashedIndex], modulus: Modulus)
     }
 }
 
-/// Fills empty slots with the indices of pairs, by sorting.
+/// Fills empty slots with the indices of `pairs`, sorted by home slot.
 ///
-/// The slots are enough for all of them. Each comparison is counted, and each key is hashed once.
+/// There must be a slot for each pair. Each comparison is counted in `looks`, and each key is
+/// hashed once.
 pub fn fill_sorted<V, H: KeyHash>(
     alloc: Global,
     pairs: &[(IString, V)],
@@ -81,7 +86,7 @@ pub fn fill_sorted<V, H: KeyHash>(
     ensures bounded { (k : ℕ) → length pairs.now ≤ 2 ^ k → looks.new ≤ looks.old + length pairs.now * k }
 {
     let modulus = Modulus::new(slots.len());
-    // Slots are filled by home slots alone, so no keys are compared.
+    // Filling needs only home slots, so the sort is passed no pairs and compares no keys.
     let order = EntryOrder {
         pairs: &pairs[..0],
         modulus,

@@ -1,4 +1,6 @@
-//! The forward shift of residents, to insert one more, and their new numbers, in each representation.
+//! The forward shift of residents for an insertion, and the renumbering of residents.
+//!
+//! Both work on each representation of slots.
 
 ghost use Rattle.std.specs.Prelude.{◌≡◌, ℕ, ◌+◌, ◌<◌, List, length, map};
 ghost use Rattle.ijson_table.specs.private.Insertion.{IsPut, MayPut};
@@ -8,10 +10,10 @@ use crate::index::probe::next_slot;
 use crate::slot::Slot;
 use crate::slot::stored::StoredSlot;
 
-/// Inserts an index at slot `from`, and shifts the residents from there on forward by one slot.
+/// Inserts index `position` at slot `from`, shifting the residents after it forward by one slot.
 ///
-/// `hash` is the part of the hash of its key that the slots keep. The shift ends at the first empty slot from there on,
-/// which is the last slot written and is returned. Residents move in the representation `S`.
+/// `hash` is the part of the key's hash that the slots keep. The shift ends at the first empty
+/// slot. Returns that slot, which is the last slot written. `S` is the representation of the slots.
 pub fn shift_forward<S: StoredSlot + Copy + Drop>(
     slots: &mut [S],
     from: usize,

@@ -1,4 +1,4 @@
-//! Lookup in a table of slots, one slot per inspection.
+//! A table whose slots can be inspected, and the lookup that counts inspections.
 
 ghost use Rattle.std.specs.Prelude.{◌≡◌, ℕ, ◌+◌, ◌-◌, ◌<◌, ◌≤◌, ◌^◌, List, length, map, Option};
 ghost use Rattle.ijson_table.specs.Store.{position_of, IsDistinct};
@@ -13,8 +13,9 @@ use ijson_number::Looks;
 
 /// A table: a list of keys, and slots that hold the indices of the keys.
 ///
-/// A resident is displaced at most one slot further than the resident of the previous slot, and is in its home slot
-/// after an empty slot. There are five slots for every four entries of the capacity.
+/// A resident is displaced at most one slot further than the resident of the previous slot. After
+/// an empty slot, a resident is in its home slot. There are five slots for every four entries of
+/// the capacity.
 pub trait Places {
     /// The hash that selects the home slot of a key.
     ghost hash_of: { List ℕ → ℕ };
@@ -42,9 +43,10 @@ pub trait Places {
         requires { 0 < length (slots self.now) }
         ensures { result ≡ home_of hash_of (length (slots self.now)) key.now };
 
-    /// Inspects one slot, and the key of its resident, as one inspection.
+    /// Inspects one slot and the key of its resident, and adds one inspection to `looks`.
     ///
-    /// `distance` is computed from the home slot of the resident.
+    /// The `distance` in the result is the number of slots from the home slot of the resident to
+    /// `slot`.
     fn look(&self, slot: usize, key: &str, looks: &mut Looks) -> Seen
         requires within { slot < length (slots self.now) }
         requires fits { looks.old + 1 < 2 ^ 128 }
@@ -74,13 +76,14 @@ impl<'a, P: Places> ProbeTarget for KeyProbe<'a, P> {
 
 /// Returns the index of a key, or `None` if the key is missing.
 ///
-/// The probe starts at the home slot of the key, and ends at the key, at an empty slot or at a resident closer to its
-/// own home slot. `looks` must stay below 2^128.
+/// The probe starts at the home slot of the key. It ends at the key, at an empty slot, or at a
+/// resident closer to its own home slot. Each inspection is added to `looks`, which must not reach
+/// 2^128.
 ///
 /// # Cost
 ///
-/// If a slot is empty, it inspects at most one slot more than the collision cluster (`crowd`) of the home slot. If none
-/// is, it inspects at most one slot per key.
+/// If a slot is empty, at most one inspection more than the size of the collision cluster (`crowd`)
+/// of the home slot. If no slot is empty, at most one inspection per key.
 pub fn locate<P: Places>(table: &P, key: &str, looks: &mut Looks) -> Option<usize>
     requires { looks.old + length (P.keys table.now) + 1 < 2 ^ 128 }
     ensures found { result ≡ position_of (P.keys table.now) key.now }

@@ -1,4 +1,5 @@
-//! The probe: the one walk over the slots of a table; `Lookup`: the probe for a key among pairs.
+//! The probe, which is the walk over the slots of a table, and `Lookup`, the probe for a key among
+//! pairs.
 
 ghost use Rattle.std.specs.Prelude.{◌≡◌, ◌↔◌, ℕ, ◌+◌, ◌-◌, ◌<◌, ◌≤◌, ◌^◌, Bool, List, [], length, get_or, map, Option, IsTrue};
 ghost use Rattle.ijson_table.specs.Slots.{after};
@@ -15,24 +16,24 @@ use ijson_number::Looks;
 use ijson_string::IString;
 use std::marker::PhantomData;
 
-/// The end of a probe.
+/// The result of a probe.
 #[derive(Clone, Copy, Drop)]
 pub enum Probed {
-    /// The target was found.
+    /// The probe found the target.
     Found {
         /// The index of the entry.
         at: usize,
         /// The slot of that entry.
         slot: usize,
     },
-    /// The target is missing, and would be stored in this slot.
+    /// The target is missing, and a new key would be inserted at this slot.
     Vacant(usize),
     /// The target is missing, and no slot is empty.
     Full,
 }
 
 impl Probed {
-    /// Returns the index that was found, if any.
+    /// Returns the index that the probe found, if any.
     pub fn found(self) -> Option<usize>
         ensures { result ≡ found_at self }
     {
@@ -48,13 +49,13 @@ pub trait ProbeTarget {
     /// The resident of each slot.
     ghost slots: { Self → List (Option ℕ) };
 
-    /// The displacement of the resident of each slot.
+    /// The displacement of the resident of each slot, or 0 if the slot is empty.
     ghost displacements: { Self → ℕ → ℕ };
 
     /// Whether an index is the target.
     ghost seeks: { Self → ℕ → Bool };
 
-    /// Inspects one slot.
+    /// Inspects one slot and adds one inspection to `looks`.
     fn look(&self, slot: usize, looks: &mut Looks) -> Seen
         requires within { slot < length (slots self.now) }
         requires fits { looks.old + 1 < 2 ^ 128 }
@@ -62,7 +63,7 @@ pub trait ProbeTarget {
         ensures counts { looks.new ≡ looks.old + 1 };
 }
 
-/// Returns the next slot, wrapping around.
+/// Returns the slot after `slot`, wrapping around.
 #[tactic(auto, using(std::proofs::lemmas::Bool::Decides::nat_tests), unfolding(crate::specs::Slots::after))]
 pub fn next_slot(slots: usize, slot: usize) -> usize
     requires { slot < slots }
@@ -72,7 +73,8 @@ pub fn next_slot(slots: usize, slot: usize) -> usize
     if slot + 1 == slots { 0 } else { slot + 1 }
 }
 
-/// Walks from the home slot to the target, an empty slot, or a resident closer to its own home slot.
+/// Walks from the home slot to the target, an empty slot, or a resident closer to its own home
+/// slot.
 ///
 /// `count` is the number of slots.
 #[inline(always)]
@@ -106,7 +108,7 @@ pub fn probe<P: ProbeTarget>(target: &P, count: usize, home: usize, looks: &mut 
 
 /// A key to look up among pairs, with the part of its hash that the slots keep.
 ///
-/// It reads the memory of a key only if the slot has the same hash.
+/// A lookup reads the memory of a pair's key only if the kept parts of both hashes are equal.
 #[derive(Drop)]
 pub struct Lookup<'a, 'i, V, S: StoredSlot, H: KeyHash> {
     pub pairs: &'a [(IString, V)],

@@ -1,4 +1,4 @@
-//! Moves of residents by their hashes: removal with backward shift, and a new hash.
+//! Removal with backward shift, and the move of an index to a new hash.
 
 ghost use Rattle.std.specs.Prelude.{◌≡◌, ℕ, ◌+◌, ◌<◌, ◌≤◌, ◌%◌, ◌^◌, List, length, map, set, Some};
 ghost use Rattle.ijson_table.specs.Slots.{resident};
@@ -19,7 +19,8 @@ use ijson_string::IString;
 
 /// A probe that compares no keys.
 ///
-/// It seeks the slot of an index or, with `None`, the vacancy for a key that is in no slot.
+/// The target is the slot of index `position`. With `None`, the probe ends at the slot at which a
+/// missing key would be inserted.
 #[derive(Drop)]
 struct HashProbe<'a> {
     slots: &'a Slots,
@@ -47,7 +48,7 @@ impl<'a> ProbeTarget for HashProbe<'a> {
     }
 }
 
-/// Returns the slot at which the probe for a missing key with this home slot ends.
+/// Returns the slot at which the probe for a missing key with home slot `home` ends.
 fn vacant_slot(slots: &Slots, modulus: Modulus, home: usize) -> usize
     requires counted { modulus.count ≡ length slots.now }
     requires home { home < length slots.now }
@@ -65,7 +66,7 @@ fn vacant_slot(slots: &Slots, modulus: Modulus, home: usize) -> usize
     }
 }
 
-/// Returns the slot of an index, whose key has this hash.
+/// Returns the slot of index `position`, whose key has hash `hash`.
 fn slot_of(slots: &Slots, modulus: Modulus, position: usize, hash: u64) -> usize
     requires counted { modulus.count ≡ length slots.now }
     requires stands { (hashes : List ℕ) × Stands hashes slots.now position hash }
@@ -84,9 +85,11 @@ fn slot_of(slots: &Slots, modulus: Modulus, position: usize, hash: u64) -> usize
     }
 }
 
-/// Removes an index from the slots of a table of these pairs, and returns the modulus of the slots.
+/// Removes index `position` from the slots of a table of `pairs`, and returns the modulus of the
+/// slots.
 ///
-/// Residents after its slot are shifted back by one slot, up to an empty slot or a resident at its home slot.
+/// Residents after the slot of the index are shifted back by one slot, up to an empty slot or a
+/// resident in its home slot.
 fn remove_index<V, H: KeyHash>(
     slots: &mut Slots,
     pairs: &[(IString, V)],
@@ -119,9 +122,9 @@ fn remove_index<V, H: KeyHash>(
     }
 }
 
-/// Each is called before the pairs are changed.
+/// Updates the slots for a change of the pairs. Call each method before the pairs change.
 impl Slots {
-    /// Removes index `position` and gives its number to the last one.
+    /// Removes index `position`, and renumbers the last index to `position`.
     pub fn swap_remove<V, H: KeyHash>(&mut self, pairs: &[(IString, V)], position: usize)
         requires table { IsTableOf (map H.hash_of (keys_of pairs.now)) self.old }
         requires within { position < length pairs.now }
@@ -138,7 +141,7 @@ impl Slots {
         self.set(there, Slot::of(position, moved));
     }
 
-    /// Moves index `position` to a slot for `hash`, the hash of its new key.
+    /// Moves index `position` to a slot for `hash`, which is the hash of its new key.
     pub fn rehash_one<V, H: KeyHash>(&mut self, pairs: &[(IString, V)], position: usize, hash: u64)
         requires table { IsTableOf (map H.hash_of (keys_of pairs.now)) self.old }
         requires within { position < length pairs.now }
@@ -152,7 +155,7 @@ impl Slots {
         self.shift_forward(slot, position, kept);
     }
 
-    /// Removes index `position` and decrements each later one.
+    /// Removes index `position`, and decrements each later index.
     pub fn shift_remove<V, H: KeyHash>(&mut self, pairs: &[(IString, V)], position: usize)
         requires table { IsTableOf (map H.hash_of (keys_of pairs.now)) self.old }
         requires within { position < length pairs.now }

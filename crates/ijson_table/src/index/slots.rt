@@ -24,18 +24,20 @@ use std::alloc::{AllocError, Global};
 use std::marker::{Model, PhantomData};
 use std::mem::size_of;
 
-/// The largest number of slots that are stored inline.
+/// The maximum number of slots that are stored inline.
 const FEW_SLOTS: usize = 10;
 
-/// Slots, each empty or with the index of an entry and the kept part of the hash of its key.
+/// A list of slots. Each is empty or has the index of an entry and the kept part of its key's hash.
 ///
-/// The kept part is the whole hash or, with at most `NARROW_SLOTS` slots, the home slot and eight more bits. Up to `FEW_SLOTS` slots do not allocate.
+/// With at most `NARROW_SLOTS` slots, the kept part is the home slot and eight more bits.
+/// Otherwise, the kept part is the full hash. Up to `FEW_SLOTS` slots do not allocate.
 #[derive(Drop)]
 pub struct Slots {
     stored: Stored,
 }
 
-/// Slots: up to 10 inline, up to 158 in a list of three-byte slots, and more in a list of 16-byte slots.
+/// Slots: up to 10 inline, up to 158 in a list of three-byte slots, and more in a list of 16-byte
+/// slots.
 #[derive(Drop)]
 enum Stored {
     Few(FewSlots),
@@ -66,7 +68,7 @@ impl Model for Slots {
 }
 
 impl Slots {
-    /// Creates no slots, which does not allocate.
+    /// Creates an empty list of slots, without allocating.
     pub fn new() -> Slots
         ensures table { IsTableOf [] result }
         ensures count { length result ≡ 0 }
@@ -97,7 +99,7 @@ impl Slots {
         Ok(Slots { stored })
     }
 
-    /// Returns a copy of the slots.
+    /// Returns a copy of the slots, in a new allocation if they are not inline.
     pub fn copied(&self, alloc: Global) -> Result<Slots, AllocError>
         ensures copied { IfOk result (λ slots. slots ≡ self.now) }
         ensures refused { OnErr result (0 < length self.now) }
@@ -134,7 +136,7 @@ impl Slots {
         }
     }
 
-    /// Reads a slot.
+    /// Returns the contents of a slot.
     #[inline(always)]
     pub fn at(&self, slot: usize) -> Slot
         requires { slot < length self.now }
@@ -162,9 +164,10 @@ impl Slots {
         }
     }
 
-    /// Probes for a key among pairs, from its home slot.
+    /// Probes for a key among `pairs`, from its home slot.
     ///
-    /// `hash` is the part of its hash that the slots keep. Their representation is tested once.
+    /// `hash` is the part of the key's hash that the slots keep. The representation of the slots is
+    /// tested once, before the probe.
     #[inline(always)]
     pub fn probe_for<V, H: KeyHash>(
         &self,
@@ -211,10 +214,12 @@ impl Slots {
         probe(&lookup, modulus.count, home, looks)
     }
 
-    /// Inserts an index at slot `from`, and shifts the residents from there on forward by one slot.
+    /// Inserts index `position` at slot `from`, shifting the residents after it forward by one
+    /// slot.
     ///
-    /// `hash` is the part of the hash of its key that the slots keep. The shift ends at the first empty slot from there on,
-    /// which is the last slot written and is returned. The representation is tested once.
+    /// `hash` is the part of the key's hash that the slots keep. The shift ends at the first empty
+    /// slot. Returns that slot, which is the last slot written. The representation of the slots is
+    /// tested once.
     pub fn shift_forward(&mut self, from: usize, position: usize, hash: u64) -> usize
         requires may { (hashes : List ℕ) × MayPut hashes self.old position hash from }
         requires narrow { MayHold (length self.old) position hash }
@@ -235,7 +240,7 @@ impl Slots {
 
     /// Renumbers the residents after the entry at index `from` was moved to index `to`.
     ///
-    /// The representation is tested once.
+    /// The representation of the slots is tested once.
     pub fn renumber(&mut self, from: usize, to: usize)
         requires from { from < length self.old }
         requires to { to < length self.old }

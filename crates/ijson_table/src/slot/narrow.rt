@@ -5,7 +5,7 @@ ghost use Rattle.ijson_table.specs.private.Narrow.{widened};
 use crate::slot::Slot;
 use crate::slot::stored::StoredSlot;
 
-/// A slot with a code below 2^8 and a hash below 2^16, which suffices among few slots.
+/// A slot of a table with few slots, with a code below 2^8 and a hash below 2^16.
 #[derive(Clone, Copy, Drop)]
 pub struct NarrowSlot {
     code: u8,
@@ -24,7 +24,7 @@ impl NarrowSlot {
     };
 }
 
-/// The representation in three bytes.
+/// Represents a slot in three bytes.
 impl StoredSlot for NarrowSlot {
     ghost stands_for = { widened };
 

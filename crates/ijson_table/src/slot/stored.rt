@@ -5,15 +5,15 @@ ghost use Rattle.ijson_table.specs.declared.slot.Slot.{Slot};
 
 use crate::slot::Slot;
 
-/// A representation of a slot. A narrow one cannot represent every slot.
+/// A representation of a slot. A narrow representation cannot represent every slot.
 pub trait StoredSlot {
-    /// The slot that it represents.
+    /// The represented slot.
     ghost stands_for: { Self → Slot };
 
-    /// The code of each represented slot is below this.
+    /// Every represented slot has a code below this limit.
     ghost code_limit: { ℕ };
 
-    /// The hash of each represented slot is below this.
+    /// Every represented slot has a hash below this limit.
     ghost hash_limit: { ℕ };
 
     /// Returns the representation of a slot.

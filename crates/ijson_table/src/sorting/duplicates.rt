@@ -1,4 +1,4 @@
-//! Merging duplicate keys by earlier indices of them.
+//! Merging of duplicate keys, given an earlier index of each.
 
 ghost use Rattle.std.specs.Prelude.{◌≡◌, [], take};
 ghost use Rattle.ijson_table.specs.Store.{keys_of, put_each};
@@ -8,9 +8,9 @@ use ijson_string::IString;
 
 /// Merges duplicate keys in place, and returns the number of distinct keys.
 ///
-/// Keys are in the order of their first occurrence, each with its last value; replaced pairs are moved to the end.
-/// `earlier[i]` must be the index of an earlier pair with the key of pair `i`, or `i` if there is no such pair. So no key
-/// is compared.
+/// The distinct keys are first, in the order of their first occurrence, each with its last value.
+/// Replaced pairs are moved to the end. `earlier[i]` must be the index of an earlier pair with the
+/// key of pair `i`, or `i` if its key is new. Keys are not compared.
 ///
 /// # Cost
 ///
@@ -19,7 +19,7 @@ pub fn merge_duplicates<V>(pairs: &mut [(IString, V)], earlier: Vec<usize>) -> u
     requires { AreEarlier (keys_of pairs.old) earlier.items }
     ensures { take result pairs.new ≡ put_each [] pairs.old }
 {
-    // For each pair before `position`: the index of its key among the inserted pairs.
+    // At each index below `position`, `places` has the index of the key among the inserted pairs.
     let mut places = earlier;
     let mut kept = 0;
     for position in 0..pairs.len() {

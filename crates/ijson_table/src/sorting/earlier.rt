@@ -1,4 +1,5 @@
-//! Finds the previous index with the same key for each pair, in one pass over the sorted hashed indices.
+//! Finds the previous index with the same key for each pair, in one pass over sorted hashed
+//! indices.
 
 ghost use Rattle.std.specs.Prelude.{◌≡◌, ℕ, List, ◌+◌, ◌<◌, ◌≤◌, ◌^◌, length, IfOk, OnErr, IsTrue, ◌↔◌};
 ghost use Rattle.ijson_table.specs.Store.{keys_of};
@@ -9,11 +10,12 @@ use ijson_number::Looks;
 use ijson_string::IString;
 use std::alloc::{AllocError, Global};
 
-/// Returns, for each index of the pairs, the previous index with the same key, or the index itself if there is none.
+/// Returns, for each pair, the previous index with the same key, or its own index if its key is
+/// new.
 ///
-/// `sorted` must have the hashed indices of all pairs in the order of `EntryOrder`: indices with equal keys are
-/// adjacent, in ascending order. Each index counts as one inspection, which compares two keys if their hashes are equal.
-/// An empty list does not allocate.
+/// `sorted` must have the hashed indices of all pairs in the order of `EntryOrder`: indices with
+/// equal keys are adjacent, in ascending order. Each pair counts as one inspection, which compares
+/// two keys only if their hashes are equal. An empty list does not allocate.
 pub fn earlier_positions<V>(
     alloc: Global,
     sorted: &[HashedIndex],
@@ -31,7 +33,7 @@ pub fn earlier_positions<V>(
         return Ok(Vec::new(alloc));
     }
     let mut earlier = vec![in alloc; 0; pairs.len()]?;
-    // The previous one, or this one if their keys differ.
+    // The previous hashed index, or the current hashed index if their keys differ.
     let mut last = sorted[0];
     for entry in sorted {
         looks.add_one();

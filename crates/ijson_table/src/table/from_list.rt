@@ -27,20 +27,26 @@ use std::marker::PhantomData;
 impl<V: Drop, H: KeyHash> Table<V, H> {
     /// Creates a store by inserting `pairs` in order.
     ///
-    /// A duplicate key keeps its index and has its last value. The list becomes that of the store: its length is the
-    /// capacity, and spare capacity is freed. Pairs before the first duplicate key do not move, and later ones move down
-    /// to the indices of their keys. An empty list does not allocate.
+    /// A duplicate key keeps its first index and has its last value. The store reuses the
+    /// allocation of `pairs`: the length is the capacity, and spare capacity is freed. Pairs before
+    /// the first duplicate key do not move. Later pairs move down to the indices of their keys. An
+    /// empty list does not allocate.
     ///
     /// # Errors
     ///
-    /// `TooLarge` if the length exceeds 2^56, `Memory` if an allocation fails. The pairs are dropped.
+    /// `TooLarge` if the length exceeds 2^56, `Memory` if an allocation fails. The pairs are
+    /// dropped.
     ///
     /// # Cost
     ///
-    /// Each key is hashed once, and the first duplicate twice. The time is linear in the number of pairs if few keys
-    /// collide. If many do, the table is built by sorting: each key is hashed up to three times, and entries of 16 bytes
-    /// per pair are sorted in temporary memory. So, for all keys, the time is at most O(n log n), plus that of the
-    /// hashes and of comparing keys of one hash.
+    /// If few keys collide, the time is linear in the number of pairs. Each key is hashed once, and
+    /// the first duplicate key twice.
+    ///
+    /// If many keys collide, the table is built by sorting. Each key is hashed up to three times,
+    /// and hashed indices of 16 bytes each are sorted in temporary memory.
+    ///
+    /// For all keys, the time is at most O(n log n), plus the time to hash all keys and to compare
+    /// keys of equal hashes.
     pub fn from_pairs(alloc: Global, pairs: Vec<(IString, V)>) -> Result<Table<V, H>, ReserveError>
         ensures pairs { IfOk result (λ table. table.store.pairs ≡ put_each [] pairs.items) }
         ensures capacity { IfOk result (λ table. table.store.capacity ≡ length pairs.items) }
@@ -50,10 +56,9 @@ impl<V: Drop, H: KeyHash> Table<V, H> {
         Table::from_pairs_counted(alloc, pairs, &mut Looks::new())
     }
 
-    /// Like `from_pairs`, but counts inspections.
+    /// Like `from_pairs`, but adds the steps to `looks`.
     ///
-    /// It counts each slot inspected for a key, each slot written up to the bound on the steps, and each comparison of
-    /// two entries or of two keys in sorting.
+    /// A step is a slot inspected or written by an insertion, or a comparison in sorting.
     pub fn from_pairs_counted(
         alloc: Global,
         mut pairs: Vec<(IString, V)>,
@@ -87,9 +92,9 @@ impl<V: Drop, H: KeyHash> Table<V, H> {
         })
     }
 
-    /// Like `from_pairs`, by sorting, with these slots.
+    /// Like `from_pairs`, but sorts the pairs and fills the given slots.
     ///
-    /// The capacity is that of the list.
+    /// The capacity is the capacity of `pairs`.
     fn from_pairs_sorted(
         alloc: Global,
         pairs: Vec<(IString, V)>,
@@ -125,10 +130,11 @@ impl<V: Drop, H: KeyHash> Table<V, H> {
     }
 }
 
-/// Inserts the pairs in order within their list, and their indices into empty slots, up to a bound on the steps.
+/// Inserts the pairs in order within their list, until the steps exceed `most`.
 ///
-/// Returns the number of keys inserted and the number of pairs read. The pairs between these two
-/// indices were replaced.
+/// The indices of the pairs are inserted into `slots`, which must be empty. Returns the number of
+/// keys inserted and the number of pairs read. The pairs between these two indices hold values that
+/// were replaced.
 #[inline(always)]
 fn put_in_place<V: Drop, H: KeyHash>(
     pairs: &mut [(IString, V)],
@@ -162,7 +168,7 @@ fn put_in_place<V: Drop, H: KeyHash>(
         pairs.swap(kept, position);
         match add_new_key::<V, H>(pairs, slots, modulus, kept, steps) {
             None => kept += 1,
-            // The swapped pairs have the same key, so the index in that key's slot stays valid.
+            // Both pairs have the same key, so the index in the slot of that key remains valid.
             Some(at) => pairs.swap(at, kept),
         }
     }

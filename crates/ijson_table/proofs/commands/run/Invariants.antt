@@ -2,7 +2,7 @@ use Rattle.std.proofs.Common.{◌≡◌, ◌≤◌, length, vec_len, vec_capacit
 use Rattle.ijson_table.specs.Steps.{Run}
 use Rattle.ijson_table.proofs.commands.run.Given as goal
 
--- the commands so far have given the replies so far
+-- `Run` relates the commands run so far to the replies so far.
 abbrev pub invariant-loop-command : goal.invariant-loop-command
 invariant-loop-command g l =
     (goal.iterator-loop-command g).can_next l.command-iterator ×

@@ -7,7 +7,7 @@ use Rattle.ijson_table.proofs.pairs.Replaced.{replaced}
 use Rattle.ijson_table.proofs.store.insert.Goals.{In-Some}
 use Rattle.ijson_table.proofs.store.insert.Goals as goal
 
--- the index at which the key was found
+-- The index that was found is the index of the key.
 found : (g : _) (c : In-Some g) → at (g.P.PairStore.pairs c.args.store.now) c.args.key ≡ Some c.in-Some.at
 found g c = ap (at (g.P.PairStore.pairs c.args.store.now)) (sym c.as_str.ensures) ∙ sym c.in-Some.ensures
 

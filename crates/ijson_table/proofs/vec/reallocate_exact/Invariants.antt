@@ -1,7 +1,7 @@
 use Rattle.std.proofs.Common.{◌≡◌, length, vec_capacity}
 use Rattle.ijson_table.proofs.vec.reallocate_exact.Given as goal
 
--- the items so far are in a list with capacity for all of them
+-- The list has the items moved so far, and its capacity is the number of all items.
 abbrev pub invariant-loop-item : goal.invariant-loop-item
 invariant-loop-item g l =
     (goal.iterator-loop-item g).can_next l.item-iterator ×

@@ -1,6 +1,6 @@
--- `LinearPairs` as a type that may hold the type that holds it, by its values.
---     entry, on_value      a pair of a string and a value, and a function applied to that value
---     holding, mapped, got and their lemmas      a store of other pairs with the same keys
+-- The former of `LinearPairs`. With it, a recursive type can contain a `LinearPairs` of itself.
+--     entry, on_value      an entry, and a function applied to the value of an entry
+--     holding, mapped, got and their lemmas      a store of other entries with the same keys
 use Rattle.std.specs.Prelude.{◌≡◌, ℕ, suc, length, max, List, [], ◌∷◌, map, vec_capacity}
 use mathlib.Core.Path.{PathP, refl, sym, ap, subst, ◌∙◌}
 use mathlib.Core.HLevel.{is_prop→PathP}
@@ -30,11 +30,11 @@ use Rattle.ijson_table.specs.declared.linear.LinearPairs.TheView.{view, invarian
 use Rattle.ijson_table.specs.contracts.linear.LinearPairs as C
 use Rattle.ijson_table.specs.contracts.linear.LinearPairs.TheInside as I
 
--- a key with one of g's values
+-- The former of an entry: a key with a value of the former `g`.
 abbrev pub entry : Former {0} → Former {0}
 entry g = pair (const (List ℕ)) g
 
--- the pair, with h applied to its value
+-- The entry `p` with `h` applied to its value.
 abbrev pub on_value : {X Y : Type 0} → (X → Y) → List ℕ × X → List ℕ × Y
 on_value h p = (p.0, h p.1)
 
@@ -60,7 +60,7 @@ pub pairs_put : {g : Former {0}} (w : Weighed g) (X : Type 0) (μ : X → ℕ) (
 pairs_put w X μ ps n t = List-puts (w_pair (w_const (List ℕ)) w) X μ ps n t
     ∙ ap (λ a. max a (deepest μ n t)) (most_values (w.weight X μ) ps)
 
--- a store of these pairs, with d's capacity
+-- Stores with the capacity of `d` and other entries.
 module _ {X Y : Type 0} (d : Store X) where
   abbrev pub holding : (ps : List (List ℕ × Y)) → IsDistinct (keys_of ps) → Store Y
   holding ps ok = record { pairs = ps; capacity = d.capacity; distinct = ok }
@@ -145,7 +145,7 @@ values_listed X (p ∷ ps) = ap (λ l. p.1 ∷ l) (values_listed X ps)
 pub the_items_listed : (X : Type 0) (d : Store X) → listed _ (children (the_former this) X d) ≡ the_items X d
 the_items_listed X d = values_listed X d.pairs
 
--- the fields: a `Vec` of pairs with distinct keys
+-- The field of `LinearPairs`: a `Vec` of entries. `fields` adds that the keys are distinct.
 abbrev columns : Former {0}
 columns = vec.the_former (entry this) Global
 

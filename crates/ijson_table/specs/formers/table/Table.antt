@@ -1,4 +1,5 @@
--- `Table` as a type that may hold the type that holds it, by its values: the former of `LinearPairs`, with the slots.
+-- The former of `Table`: the former of `LinearPairs` with the slots. With it, a recursive type can
+-- contain a `Table` of itself.
 use Rattle.std.specs.Prelude.{◌≡◌, ℕ, List, [], map, Option, vec_capacity}
 use Rattle.std.specs.Coded.{coded_option}
 use mathlib.Core.Path.{refl, sym, ap, subst}
@@ -48,7 +49,8 @@ the_items H X t = linear.the_items X t.store
 pub the_items_listed : (H X : Type 0) (t : Placed X) → listed _ (children (the_former this H) X t) ≡ the_items H X t
 the_items_listed H X t = linear.the_items_listed X t.store
 
--- the fields: a `Vec` of pairs with distinct keys, and the fields without values
+-- The fields of `Table`: a `Vec` of entries, and the fields without values. `fields` adds that the
+-- keys are distinct.
 abbrev columns : Type 0 → Former {0}
 columns H = pair (vec.the_former (linear.entry this) Global) (const (List Slot × (Global × PhantomData H)))
 

@@ -23,43 +23,43 @@ use Rattle.ijson_table.proofs.slots.SlotTables.{accepts, left_empty, pushed}
 use Rattle.ijson_table.proofs.index.add.add_new_key.Goals.{After-probe_for, In-Found, In-Vacant, After-shift_forward-last}
 use Rattle.ijson_table.proofs.index.add.add_new_key.Goals as goal
 
--- the key of the pair
+-- Key `position` of the pairs is the string that was read.
 keyed : (g : _) (c : After-probe_for g) → get_or (keys_of c.args.pairs.now) c.args.position [] ≡ c.as_str-key.result.now
 keyed g c = key_at c.args.pairs.now c.args.position c.index-pairs-position.result c.requires.within ∙ sym c.as_str-key.ensures
 
--- the keys before it, and their hashes
+-- The keys before index `position`. `first` has their hashes.
 abbrev before : (g : _) (c : After-probe_for g) → List (List ℕ)
 before g c = keys_of (take c.args.position c.args.pairs.now)
 
 abbrev first : (g : _) (c : After-probe_for g) → List ℕ
 first g c = hashes g.H.KeyHash.hash_of (take c.args.position c.args.pairs.now)
 
--- its hash after them
+-- The hashes of the keys before index `position`, followed by the hash of the new key.
 abbrev more : (g : _) (c : After-probe_for g) → List ℕ
 more g c = first g c ++ g.H.KeyHash.hash_of c.as_str-key.result.now ∷ []
 
 count_is : (g : _) (c : After-probe_for g) → length (first g c) ≡ c.args.position
 count_is g c = first_hashes g.H.KeyHash.hash_of c.args.pairs.now c.args.position c.requires.within
 
--- the slots
+-- The length of `positions` equals the number of slots.
 size : (g : _) (c : After-probe_for g) → length (positions c.args.slots.now) ≡ length c.args.slots.now
 size g c = positions-length c.args.slots.now
 
 some : (g : _) (c : After-probe_for g) → 0 < length (positions c.args.slots.now)
 some g c = omega (arith, c.requires.room, size g c)
 
--- the result of the probe
+-- If the probe satisfies `Walks`, its end satisfies `LookUpEnds`.
 told : (g : _) (c : After-probe_for g) (end : Probed)
     → Walks g.H.KeyHash.hash_of (before g c) (positions c.args.slots.now) c.as_str-key.result.now (c.probe_for.new.looks - c.new.result) end
     → LookUpEnds (first g c) (before g c) (positions c.args.slots.now) (g.H.KeyHash.hash_of c.as_str-key.result.now) c.as_str-key.result.now end
 told g c end walks = look_up_ends g.H.KeyHash.hash_of (before g c) (positions c.args.slots.now) c.requires.placed.table.table
     c.as_str-key.result.now c.requires.placed.distinct (some g c) end _ walks
 
--- the part of the hash that is kept
+-- The second result of `split` is the part of the key's hash that the slots keep.
 part : (g : _) (c : After-probe_for g) → c.split-home.result.1 ≡ kept (length c.args.slots.now) (g.H.KeyHash.hash_of c.as_str-key.result.now)
 part g c = c.split-home.ensures.kept ∙ ap₂ kept c.requires.counted c.hash.ensures
 
--- the index may be put at the end of the probe
+-- Index `position` may be inserted at the slot at which the probe ended.
 may : (g : _) (c : In-Vacant g) → MayPut (more g c.before) c.args.slots.now c.args.position c.split-home.result.1 c.in-Vacant.slot
 may g c =
     let w = c.before in (
@@ -86,7 +86,7 @@ pub distance_between-requires-clause-to : goal.distance_between-requires-clause-
 distance_between-requires-clause-to g c =
     omega (arith, (put g (goal.at.distance_between-requires-clause-to g c).After-shift_forward-last).within, c.requires.counted)
 
--- a computed distance from the home slot
+-- A distance from the first result of `split` is a distance from the home slot of the key.
 away : (g : _) (c : After-probe_for g) (p d : ℕ) → d ≡ distance c.args.modulus.count c.split-home.result.0 p
     → d ≡ distance (length (positions c.args.slots.now)) (home_of g.H.KeyHash.hash_of (length (positions c.args.slots.now)) c.as_str-key.result.now) p
 away g c p d is = is ∙ (ap (λ h. distance c.args.modulus.count h p) (c.split-home.ensures.home ∙ ap (λ h. h % c.args.modulus.count)
@@ -102,7 +102,7 @@ near g c p d is there = omega (
   c.requires.counted,
 )
 
--- the slot at which the key was found
+-- The slot at which the key was found is below the number of slots.
 there : (g : _) (c : In-Found g) → c.in-Found.slot < length c.args.slots.now
 there g c =
     let hash = g.H.KeyHash.hash_of in
@@ -152,7 +152,7 @@ unreachable-requires g c =
     (told g w Full c.in-Full.ensures.ends).1 (left_empty (first g w) (positions c.args.slots.now) c.requires.placed.table.table
     (omega (arith, count_is g w, c.requires.room, size g w)))
 
--- the steps are those of the pair's key
+-- If `CountsSteps` holds for the string that was read, it holds for key `position` of the pairs.
 counted : (g : _) (c : After-probe_for g) (new : List (Option ℕ)) (steps : ℕ)
     → CountsSteps g.H.KeyHash.hash_of (before g c) c.as_str-key.result.now (positions c.args.slots.now) new steps
     → CountsSteps g.H.KeyHash.hash_of (before g c) (get_or (keys_of c.args.pairs.now) c.args.position []) (positions c.args.slots.now) new steps

@@ -21,7 +21,7 @@ are_places : (c : Start) → ArePlaces c.args.modulus.count c.args.sorted.now (p
 are_places c = places c.args.modulus.count c.args.sorted.now (omega (arith, c.requires.room, c.requires.counted))
     c.requires.sorted.0 c.requires.sorted.1
 
--- the next entry is written to its slot
+-- The slot that the code computes for the next hashed index is its `place`.
 place_is : (c : Joined-spot-count) → c.if-spot-count.slot ≡ place c.args.modulus.count c.args.sorted.now c.loop-index.index
 unfolding wrapped
 place_is c =

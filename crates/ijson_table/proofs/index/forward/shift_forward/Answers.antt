@@ -21,7 +21,7 @@ use Rattle.ijson_table.proofs.index.forward.shift_forward.Goals.{After-is_empty}
 use Rattle.ijson_table.proofs.index.forward.shift_forward.Invariants.{IsOnTheWay}
 use Rattle.ijson_table.proofs.index.forward.shift_forward.Goals as goal
 
--- a slot that is written counts once
+-- Writing a slot adds at most 1 to the number of changed slots.
 one_more : (old : List (Option ℕ)) (slots : List Slot) (slot written : ℕ) (entry : Slot) → changes old (positions slots) ≤ written
     → changes old (positions (set slots slot entry)) ≤ written + 1
 one_more old slots slot written entry few = omega (
@@ -30,7 +30,8 @@ one_more old slots slot written entry few = omega (
   changes-set old (positions slots) slot (position_in entry),
 )
 
--- if the shift continues, the current slot was full too,
+-- If the slots from `from` to before `slot` have residents, and `slot` has a resident, then the
+-- slots from `from` to `slot` have residents.
 passed_more : (old : List (Option ℕ)) (n from slot more : ℕ) → n ≡ length old → from < n → slot < n → more ≡ distance n from slot + 1
     → AreFull old from (distance n from slot) → resident old slot ≢ None → AreFull old from more
 passed_more old n from slot more size lf ls is passed here j lj none = elim (cases_eq j (distance n from slot)) [
@@ -50,15 +51,15 @@ module _ (hashes : List ℕ) (old : List Slot) (position from : ℕ) (slots : Li
   abbrev ps : List (Option ℕ)
   ps = positions slots
 
-  -- the index that `entry` holds
+  -- The index that `entry` holds.
   abbrev pending : ℕ
   pending = way.held.0
 
-  -- the pending index may be put into the current slot
+  -- The pending index may be inserted at the current slot.
   may : MayStand hashes ps pending slot
   may = way.held.3
 
-  -- the current slot is one of the slots
+  -- The current slot is below the number of slots.
   here : slot < length slots
   here = omega (arith, may.within, positions-length slots)
 
@@ -68,7 +69,7 @@ module _ (hashes : List ℕ) (old : List Slot) (position from : ℕ) (slots : Li
   put : Holds hashes want (resident ps slot) (positions (set slots slot entry))
   put = rw (positions-put slots slot entry pending way.held.1) (put_down hashes want ps pending slot may.within way.held.2 may)
 
-  -- if the slot is empty, writing `entry` to it completes the shift
+  -- If the current slot is empty, writing `entry` to it completes the insertion.
   is_put : position_in read ≡ None → IsPut hashes old position from slot (set slots slot entry)
   is_put empty =
       let none : resident ps slot ≡ None = position-at slots slot None here (sym empty ∙ ap position_in is) in
@@ -82,7 +83,7 @@ module _ (hashes : List ℕ) (old : List Slot) (position from : ℕ) (slots : Li
         changes = one_more (positions old) slots slot (distance n from slot) entry way.changes;
       }
 
-  -- some slot is empty, which was not passed
+  -- An empty slot, which the shift has not passed.
   abbrev e : ℕ
   e = way.some_empty.0
 
@@ -99,12 +100,12 @@ module _ (hashes : List ℕ) (old : List Slot) (position from : ℕ) (slots : Li
   still_empty : resident ps e ≡ None
   still_empty = way.left e le ahead ∙ way.some_empty.2
 
-  -- If the slot has a resident,
+  -- If the current slot has resident `k`, the shift continues at slot `next`.
   module _ (k next : ℕ) (there : position_in read ≡ Some k) (to : next ≡ after n slot) where
     stood : resident ps slot ≡ Some k
     stood = position-at slots slot (Some k) here (sym there ∙ ap position_in is)
 
-    -- the next slot is not the first slot, `from`
+    -- The next slot is not slot `from`.
     room : distance n from slot + 1 < n
     room = elim (cases_eq (distance n from e) (distance n from slot)) [
       | inl same ↦
@@ -114,7 +115,7 @@ module _ (hashes : List ℕ) (old : List Slot) (position from : ℕ) (slots : Li
       | inr other ↦ omega (arith, ahead, other, distance-below n from e way.starts le)
     ]
 
-    -- the next slot is one slot further from `from`
+    -- The next slot is one slot further from `from` than the current slot.
     further : distance n from next ≡ distance n from slot + 1
     further = ap (distance n from) to ∙ distance-after n from slot way.starts within room
 
@@ -124,7 +125,7 @@ module _ (hashes : List ℕ) (old : List Slot) (position from : ℕ) (slots : Li
         (taken_up hashes ps pending k slot e may.within (omega (arith, le, way.size, positions-length slots)) way.held.2.ordered
         (displacement-none hashes ps e still_empty) stood may.further))
 
-    -- the invariant holds at the next slot
+    -- If `entry` is written to the current slot, the invariant holds at the next slot.
     goes_further : IsOnTheWay hashes old position from (set slots slot entry) read next
     goes_further = record {
       starts = way.starts;
@@ -169,20 +170,20 @@ loop-was-init g c = record {
       subst (λ entry. IsOnTheWay hashes stored c.args.position c.args.from stored entry c.args.from) (sym c.stored-entry.ensures) way;
 }
 
--- the stored slot that was read represents the slot
+-- The stored slot that was read represents the slot at index `slot`.
 read_seen : (g : _) (c : After-is_empty g) → g.S.StoredSlot.stands_for c.index-slots-slot.result
     ≡ get_or (map g.S.StoredSlot.stands_for c.loop-was.slots) c.loop-was.slot blank
 read_seen g c = seen_at g.S.StoredSlot.stands_for c.loop-was.slots c.loop-was.slot c.index-slots-slot.result
     (omega (arith, c.loop-was.invariant.inside, length-map c.loop-was.slots g.S.StoredSlot.stands_for)) c.index-slots-slot.is
 
--- a slot that is not empty has a resident
+-- A slot that is not empty has a resident.
 stands : (g : _) (c : After-is_empty g) → c.is_empty.result ≡ false
     → (k : ℕ) × (position_in (g.S.StoredSlot.stands_for c.index-slots-slot.result) ≡ Some k)
 stands g c full =
     let who = some_position (position_in c.widened.result) (λ none. let empty = c.is_empty.ensures.1 none in absurd (cc (empty, full))) in
     (who.0, sym (ap position_in c.widened.ensures.value) ∙ who.1)
 
--- the next slot is the same among the represented slots
+-- The next slot is the slot after the current slot of the represented slots.
 next_seen : (g : _) (c : goal.After-next_slot-slot g) → c.next_slot-slot.result
     ≡ after (length (map g.S.StoredSlot.stands_for c.args.slots.now)) c.loop-was.slot
 next_seen g c = c.next_slot-slot.ensures.slot ∙ ap (λ n. after n c.loop-was.slot) (sym (length-map c.args.slots.now g.S.StoredSlot.stands_for))

@@ -9,7 +9,9 @@ use Rattle.ijson_table.specs.private.Probe.{AreFull}
 use Rattle.ijson_table.specs.private.SlotHashes.{position_in, positions, HasHash, HaveHashes}
 use Rattle.ijson_table.proofs.index.forward.shift_forward.Given as goal
 
--- As many slots are written as the current one is from the first. The others are unchanged.
+-- Holds during the insertion of index `position` at slot `from`. The slots from `from` to before
+-- `slot` are written, and the later slots are unchanged. `entry` holds the next index to write,
+-- which may be inserted at `slot`.
 pub record IsOnTheWay (hashes : List ℕ) (old : List Slot) (position from : ℕ) (slots : List Slot) (entry : Slot) (slot : ℕ) : Type 0 where
   pub starts : from < length old
   pub some_empty : HasEmpty (positions old)

@@ -30,7 +30,7 @@ probe-requires-clause-fits g c = λ m lm passed.
     (subst (λ h. h < n) (sym c.home.ensures) (mod-lt (p.hash_of c.args.key.now) (omega (arith, lm)))) (omega (arith, lm)) passed in
     omega (arith, few, c.requires, length-map (p.keys table) p.hash_of)
 
--- the probe from the home slot of the key
+-- The probe from the home slot of `key` ends as `Ends` states.
 walked : (g : _) (c : goal.After-probe g) → Ends (g.P.Places.slots c.args.table.now)
     (displacement (map g.P.Places.hash_of (g.P.Places.keys c.args.table.now)) (g.P.Places.slots c.args.table.now))
     (home_of g.P.Places.hash_of (length (g.P.Places.slots c.args.table.now)) c.args.key.now)

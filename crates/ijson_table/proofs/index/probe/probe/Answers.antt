@@ -20,7 +20,7 @@ loop-passed-init g c =
       looked = omega arith;
     }
 
--- the residents that were passed and one more
+-- If the next resident is not the target, `PassedOthers` holds for `m + 1` slots.
 more : (slots : List (Option ℕ)) (seeks : ℕ → Bool) (h m i : ℕ) → PassedOthers slots seeks h m
     → resident slots (onward (length slots) h m) ≡ Some i → seeks i ≡ false → PassedOthers slots seeks h (m + 1)
 more slots seeks h m i others there no_it_is j k lj at = elim (cases_lt j m) [
@@ -55,7 +55,7 @@ loop-passed-preserved g c =
       looked = omega (arith, c.look.ensures.counts, c.loop-passed.invariant.looked);
     }
 
--- the inspection after those that it passed ends the probe
+-- `EndsAt` holds if each of its fields holds.
 ends_at : {slots : List (Option ℕ)} {displacements : ℕ → ℕ} {h : ℕ} {seeks : ℕ → Bool} {looks p m : ℕ} → m < length slots
     → p ≡ onward (length slots) h m → Passed displacements (length slots) h m → PassedOthers slots seeks h m → looks ≡ m + 1
     → EndsAt slots displacements h seeks looks p m

@@ -2,7 +2,7 @@ use Rattle.std.proofs.Common.{◌≡◌, ◌+◌, ◌<◌, length}
 use Rattle.ijson_table.specs.private.Probe.{onward, Passed, PassedOthers}
 use Rattle.ijson_table.proofs.index.probe.probe.Given as goal
 
--- these slots were passed, with one inspection each
+-- The probe has passed the first `passed` slots, with one inspection of each.
 abbrev pub invariant-loop-passed : goal.invariant-loop-passed
 invariant-loop-passed g l =
     let p = g.P.ProbeTarget in

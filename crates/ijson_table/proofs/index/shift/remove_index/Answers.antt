@@ -18,7 +18,7 @@ use Rattle.ijson_table.proofs.index.shift.remove_index.Goals.{After-is_empty, Af
 use Rattle.ijson_table.proofs.index.shift.remove_index.Goals.{then-is_empty-via-else-is_empty+then-distance_between-eq0}
 use Rattle.ijson_table.proofs.index.shift.remove_index.Goals as goal
 
--- the slot after the gap, and its contents
+-- `next` is the slot after the gap, and `behind` is its contents.
 module _ (hashes : List ℕ) (gone count : ℕ) (slots : List Slot) (gap : ℕ) (was : HasGapAt hashes gone count slots gap) (next : ℕ)
     (behind : Slot) (to : next ≡ after count gap) (read : behind ≡ get_or slots next blank) where
   abbrev ps : List (Option ℕ)
@@ -30,15 +30,15 @@ module _ (hashes : List ℕ) (gone count : ℕ) (slots : List Slot) (gap : ℕ) 
   within : next < length slots
   within = omega (arith, after-below (length ps) gap (gap_within hashes ps gap was.gap_is), reached, positions-length slots)
 
-  -- if no resident may move back, the slots are in order
+  -- If the next slot is empty or its resident is in its home slot, the slots are ordered.
   closed : displacement hashes ps next ≤ 1 → IsOrdered hashes ps
   closed end = gap_closed hashes ps gap was.gap_is (omega (arith, end, ap (displacement hashes ps) reached))
 
-  -- as after an empty slot
+  -- If the next slot is empty, the slots are ordered.
   ended : position_in behind ≡ None → IsOrdered hashes ps
   ended none = closed (omega (arith, displacement-none hashes ps next (position-at slots next None within (sym none ∙ ap position_in read))))
 
-  -- the resident, and its distance from its home slot
+  -- `k` is the resident of the next slot, and `far` is its distance from its home slot.
   module _ (k far : ℕ) (stands : position_in behind ≡ Some k) (is : far ≡ distance count (behind.hash % count) next) where
     seen : Some k ≡ position_in (get_or slots next blank)
     seen = sym stands ∙ ap position_in read
@@ -60,7 +60,8 @@ module _ (hashes : List ℕ) (gone count : ℕ) (slots : List Slot) (gap : ℕ) 
       away : 1 < displacement hashes ps (after (length ps) gap)
       away = omega (arith, some, displaced, ap (displacement hashes ps) reached)
 
-      -- if it is not at home, it moves back by one slot,
+      -- If the resident is not in its home slot, moving it into the gap moves the gap to the next
+      -- slot.
       goes_on : HasGapAt hashes gone count now next
       goes_on = record {
         gap_is = subst (λ qs. HasGap hashes qs next) (sym moved) (subst (HasGap hashes (set (set ps gap (Some k)) (after (length ps) gap) None)) reached
@@ -72,12 +73,12 @@ module _ (hashes : List ℕ) (gone count : ℕ) (slots : List Slot) (gap : ℕ) 
         size = length-set (set slots gap behind) next blank ∙ (length-set slots gap behind ∙ was.size);
       }
 
-      -- and the displacements become less
+      -- Moving the resident into the gap decreases the sum of the displacements.
       falls : all_displacements hashes (positions now) < all_displacements hashes ps
       falls = subst (λ qs. all_displacements hashes qs < all_displacements hashes ps) (sym moved)
           (shift_falls hashes ps gap was.gap_is k there away)
 
--- the slot of the index
+-- Index `position` is in a slot.
 stood : (g : Over) (c : After-len g) → (p : ℕ) × (p < length (positions c.args.slots.now)) × (resident (positions c.args.slots.now) p ≡ Some c.args.position)
 stood g c = placed_at (key_hashes g.H.KeyHash.hash_of c.args.pairs.now) (positions c.args.slots.now) c.requires.table.table c.args.position
     (omega (arith, c.requires.within, length-hashes g.H.KeyHash.hash_of c.args.pairs.now))
@@ -121,12 +122,12 @@ loop-behind-init g c =
     } in
     subst (λ qs. HasGapAt hashes c.args.position c.new-modulus.result.count qs gap) (sym c.set.ensures) left
 
--- the resident of the next slot, if it is not empty,
+-- If the next slot is not empty, it has a resident.
 resides : (g : _) (c : After-is_empty g) → c.is_empty.result ≡ false → (i : ℕ) × (position_in c.at-behind.result ≡ Some i)
 resides g c full = some_position (position_in c.at-behind.result)
     (λ none. let empty = c.is_empty.ensures.1 none in absurd (cc (empty, full)))
 
--- and the distance from its home slot
+-- The distance that the code computes is the distance from the home slot of the next slot's hash.
 home_is : (g : _) (c : After-is_empty g) → distance c.new-modulus.result.count c.home_of_hash-home.result c.next_slot-next.result
     ≡ distance c.new-modulus.result.count (c.at-behind.result.hash % c.new-modulus.result.count) c.next_slot-next.result
 home_is g c = ap (λ h. distance c.new-modulus.result.count h c.next_slot-next.result) c.home_of_hash-home.ensures.value
@@ -154,7 +155,7 @@ returns-then-is_empty-clause-left g c =
       hashes_are = was.hashes_are;
     }
 
--- the slots after it moved
+-- After both writes, the gap has the contents of the next slot, and the next slot is empty.
 now_is : (g : _) (c : After-set-in-loop-behind-2 g) → c.set-in-loop-behind-2.new.self
     ≡ set (set c.loop-behind.slots c.loop-behind.gap c.at-behind.result) c.next_slot-next.result blank
 now_is g c = c.set-in-loop-behind-2.ensures ∙ ap (λ qs. set qs c.next_slot-next.result blank) c.set-in-loop-behind.ensures

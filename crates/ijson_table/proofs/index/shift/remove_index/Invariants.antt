@@ -7,7 +7,7 @@ use Rattle.ijson_table.specs.private.SlotHashes.{positions, HaveHashes}
 use Rattle.ijson_table.proofs.shifting.BackwardShift.{all_displacements, HasGap}
 use Rattle.ijson_table.proofs.index.shift.remove_index.Given as goal
 
--- The slots have a gap, and each index but one.
+-- Holds if the slots have a gap at slot `gap`, and hold each index except `gone` exactly once.
 pub record HasGapAt (hashes : List ℕ) (gone count : ℕ) (slots : List Slot) (gap : ℕ) : Type 0 where
   pub gap_is : HasGap hashes (positions slots) gap
   pub placed : (i : ℕ) → times i (positions slots) + one_if i (Some gone) ≡ below (length hashes) i

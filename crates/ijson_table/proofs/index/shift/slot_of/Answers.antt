@@ -15,7 +15,7 @@ use Rattle.ijson_table.proofs.probing.CrowdBound.{home-below}
 use Rattle.ijson_table.proofs.probing.ProbePath.{passed_by}
 use Rattle.ijson_table.proofs.index.shift.slot_of.Goals as goal
 
--- the probe passes the index if it does not find it
+-- A probe for an index that is in a slot does not end before it finds the index.
 missed : (hashes : List ℕ) (slots : List Slot) (position hash m : ℕ) → Stands hashes slots position hash
     → PassedOthers (positions slots) (λ i. eqb i position) (hash % length slots) m
     → (length (positions slots) ≤ m)
@@ -28,7 +28,7 @@ missed hashes slots position hash m s others ended =
     let no_it_is : eqb position position ≡ false = others by.0 position by.1 (ap (λ h. resident ps (onward (length ps) h by.0)) home ∙ by.2) in
     grind (arith, nat_tests, no_it_is)
 
--- the probe finds the index
+-- A probe for an index that is in a slot ends as `Found`.
 no_other : (hashes : List ℕ) (slots : List Slot) (position hash looks : ℕ) → Stands hashes slots position hash
     → (end : Probed) → Ends (positions slots) (displacement_in slots) (hash % length slots) (λ i. eqb i position) looks end
     → ((x : ℕ) × (end ≡ Vacant x)) ⊎ (end ≡ Full) → ⊥

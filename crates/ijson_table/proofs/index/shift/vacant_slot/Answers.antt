@@ -9,7 +9,7 @@ use Rattle.ijson_table.proofs.shifting.Insertion.{not_round}
 use Rattle.ijson_table.proofs.slots.HashesInSlots.{positions-length, displacement_in-none}
 use Rattle.ijson_table.proofs.index.shift.vacant_slot.Goals as goal
 
--- the target is in no slot, and a slot is empty
+-- If a slot is empty, a probe without a target ends as `Vacant`.
 no_other : (slots : List Slot) (home looks : ℕ) → home < length slots → HasEmpty (positions slots)
     → (end : Probed) → Ends (positions slots) (displacement_in slots) home (λ i. false) looks end
     → ((x : ℕ) × (x' : ℕ) × (end ≡ Found x x')) ⊎ (end ≡ Full) → ⊥

@@ -4,7 +4,7 @@ use Rattle.ijson_table.proofs.pairs.PairsByKey.{lookup-position, lookup-absent, 
 use Rattle.ijson_table.proofs.linear.LinearPairs.get.Goals.{In-Some}
 use Rattle.ijson_table.proofs.linear.LinearPairs.get.Goals as goal
 
--- the index at which the key was found
+-- The index that was found is the index of the key.
 found : (g : _) (c : In-Some g) → at c.self.inside.pairs.items c.args.key.now ≡ Some c.in-Some.index
 found g c = ap (λ ps. at ps c.args.key.now) (sym c.deref.ensures.value) ∙ sym c.in-Some.ensures
 

@@ -4,7 +4,7 @@ use Rattle.ijson_table.proofs.sorting.duplicates.merge_duplicates.Given.{Over}
 use Rattle.ijson_table.proofs.sorting.duplicates.merge_duplicates.Goals as goal
 use Rattle.ijson_table.proofs.sorting.duplicates.merge_duplicates.Goals.{then-before-position, else-before-position, After-swap}
 
--- the facts of an iteration
+-- Each iteration satisfies `Turn`.
 turn : (g : Over) (c : After-swap g) → Turn c.args.pairs.now c.loop-position.pairs c.swap.new.self c.args.earlier.items
     c.loop-position.places.items c.loop-position.kept c.loop-position.position c.index-before.result.now
 turn g c = record {

@@ -15,7 +15,7 @@ use Rattle.ijson_table.proofs.slots.SlotTables.{left_empty}
 use Rattle.ijson_table.proofs.table.Table.find.Goals.{After-len-count, After-probe_for-probed}
 use Rattle.ijson_table.proofs.table.Table.find.Goals as goal
 
--- with spare capacity, a slot is empty
+-- If the length is below the capacity, a slot is empty.
 spare : (g : _) (c : After-len-count g) → length c.args.self.now.store.pairs < c.args.self.now.store.capacity → HasEmpty c.args.self.now.slots
 spare g c = subst (λ (t : Placed g.row.V.Denot). length t.store.pairs < t.store.capacity → HasEmpty t.slots) c.self.view_is
     (λ room. left_empty _ (positions c.self.inside.slots) c.self.invariant.table.table (omega (
@@ -47,7 +47,7 @@ probe_for-probed-requires-clause-fits g c = λ m lm passed.
       ap length c.deref.ensures.value,
     )
 
--- the probe among the pairs
+-- The probe satisfies `Walks` for the keys of the table.
 walks : (g : _) (c : After-probe_for-probed g) → Walks g.H.KeyHash.hash_of (keys_of c.self.inside.pairs.items) (positions c.self.inside.slots)
     c.args.key.now (c.probe_for-probed.new.looks - c.args.looks.now) c.probe_for-probed.result
 walks g c = subst (λ ps. Walks g.H.KeyHash.hash_of (keys_of ps) (positions c.self.inside.slots) c.args.key.now

@@ -8,14 +8,14 @@ use Rattle.ijson_table.proofs.table.Table.from_pairs_counted.Given.{Over}
 use Rattle.ijson_table.proofs.table.Table.from_pairs_counted.Goals.{In_ok-capacity, After-remove_range, Else-read-capacity}
 use Rattle.ijson_table.proofs.table.Table.from_pairs_counted.Goals as goal
 
--- the capacity is the number of pairs, and within the limit
+-- The capacity is the number of pairs, which is at most the limit.
 within : (g : Over) (c : In_ok-capacity g) → (c.in_ok-capacity.capacity ≡ length c.args.pairs.items)
     × (length c.args.pairs.items ≤ capacity_limit)
 within g c =
     let len : c.len.result ≡ length c.args.pairs.items = c.len.ensures ∙ c.args.pairs.ok.0 in
     (c.in_ok-capacity.ensures.0 ∙ len, subst (λ n. n ≤ capacity_limit) len c.in_ok-capacity.ensures.1)
 
--- if those that are kept are followed by those that are left, they give the same as all when inserted in order
+-- Inserting the pairs that remain in the list equals inserting all given pairs.
 all_put : (g : Over) (c : After-remove_range g) → c.remove_range.new.list.items
     ≡ take c.put_in_place-kept.result.0 c.put_in_place-kept.new.pairs ++ drop c.put_in_place-kept.result.1 c.put_in_place-kept.new.pairs
     → put_each [] c.remove_range.new.list.items ≡ put_each [] c.args.pairs.items
@@ -25,7 +25,7 @@ all_put g c remaining =
     c.put_in_place-kept.ensures.placed.distinct ∙ (c.put_in_place-kept.ensures.pairs
     ∙ ap (put_each []) (c.deref_mut.ensures.value ∙ c.shrink_to_len.ensures.items)))
 
--- if all were read, these are the first of them
+-- If all pairs were read, the pairs that remain in the list are the kept pairs.
 all_read : (g : Over) (c : Else-read-capacity g) → c.in_ok-capacity.capacity ≡ length c.args.pairs.items → c.remove_range.new.list.items
     ≡ take c.put_in_place-kept.result.0 c.put_in_place-kept.new.pairs ++ drop c.put_in_place-kept.result.1 c.put_in_place-kept.new.pairs
     → c.remove_range.new.list.items ≡ take c.put_in_place-kept.result.0 c.put_in_place-kept.new.pairs

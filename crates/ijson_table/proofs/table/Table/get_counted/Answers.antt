@@ -6,7 +6,7 @@ use Rattle.ijson_table.proofs.probing.ProbeEnds.{found_at-ends}
 use Rattle.ijson_table.proofs.table.Table.get_counted.Goals.{After-found}
 use Rattle.ijson_table.proofs.table.Table.get_counted.Goals as goal
 
--- the lookup finds the index of the key
+-- The lookup finds the index of the key.
 told : (g : _) (c : After-found g) → at c.args.self.now.store.pairs c.args.key.now ≡ c.found.result
 told g c =
     let keys = keys_of c.args.self.now.store.pairs in

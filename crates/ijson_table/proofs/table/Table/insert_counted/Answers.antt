@@ -13,13 +13,13 @@ use Rattle.ijson_table.proofs.pairs.Replaced.{replaced}
 use Rattle.ijson_table.proofs.table.Table.insert_counted.Goals.{After-find, After-reserve, In-Found-default}
 use Rattle.ijson_table.proofs.table.Table.insert_counted.Goals as goal
 
--- the end of the lookup
+-- The end of the lookup satisfies `LookUpEnds`.
 ended : (g : _) (c : After-find g) (end : Probed) → c.find.result.0 ≡ end → LookUpEnds (hashes g.H.KeyHash.hash_of c.args.self.now.store.pairs)
     (keys_of c.args.self.now.store.pairs) c.args.self.now.slots (g.H.KeyHash.hash_of c.as_str-2.result.now) c.as_str-2.result.now end
 ended g c end is = subst (LookUpEnds (hashes g.H.KeyHash.hash_of c.args.self.now.store.pairs) (keys_of c.args.self.now.store.pairs)
     c.args.self.now.slots (g.H.KeyHash.hash_of c.as_str-2.result.now) c.as_str-2.result.now) is c.find.ensures.ends
 
--- the index at which the key was found
+-- The index that was found is the index of the key.
 found : (g : _) (c : In-Found-default g) → at c.args.self.now.store.pairs c.args.key ≡ Some c.in-Found-default.at
 found g c = ap (at c.args.self.now.store.pairs) (sym c.as_str-2.ensures) ∙ ended g c.before (Found c.in-Found-default.at c.in-Found-default.slot-0) c.in-Found-default.is-0
 
@@ -50,7 +50,7 @@ returns-in-Vacant-default-clause-inserts g c =
           (had_room (length c.self.inside.pairs.items) (vec_capacity c.self.inside.pairs) room)),
     )
 
--- a key that is not found is missing
+-- A key that the lookup did not find is missing.
 missing : (g : _) (c : After-reserve g) → at c.args.self.now.store.pairs c.args.key ≡ None
 missing g c = search rules
 

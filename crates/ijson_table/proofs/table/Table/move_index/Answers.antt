@@ -13,7 +13,7 @@ use Rattle.ijson_table.proofs.shifting.MovedIndices.{distinct_relocated, length-
 use Rattle.ijson_table.proofs.table.Table.move_index.Goals.{After-insert}
 use Rattle.ijson_table.proofs.table.Table.move_index.Goals as goal
 
--- the pairs before and after the move
+-- The pairs before the move.
 abbrev old : (g : _) (c : After-insert g) → List (List ℕ × g.row.V.Denot)
 old g c = c.self.inside.pairs.items
 
@@ -23,7 +23,7 @@ from_in g c = omega (arith, c.requires.from, count_shown c.self.view_is)
 to_in : (g : _) (c : After-insert g) → c.args.to < length (old g c)
 to_in g c = omega (arith, c.requires.to, count_shown c.self.view_is)
 
--- the list has capacity for the pair that was removed
+-- After the pair is removed, the list has capacity for it.
 room : (g : _) (c : After-insert g) → length c.remove-pair.new.self.items < vec_capacity c.remove-pair.new.self
 room g c = omega (
   arith,

@@ -15,22 +15,22 @@ use Rattle.ijson_table.proofs.slots.SlotTables.{accepts, pushed}
 use Rattle.ijson_table.proofs.table.Table.push_at.Goals.{After-push_reserved}
 use Rattle.ijson_table.proofs.table.Table.push_at.Goals as goal
 
--- the list has capacity for a pair
+-- The list has capacity for one more pair.
 room : (g : _) (c : After-push_reserved g) → length c.self.inside.pairs.items < vec_capacity c.self.inside.pairs
 room g c = omega (arith, c.requires.room, count_shown c.self.view_is, room_shown c.self.view_is)
 
--- the hashes of the keys
+-- The hashes of the keys before the new pair is appended.
 abbrev old : (g : _) (c : After-push_reserved g) → List ℕ
 old g c = hashes g.H.KeyHash.hash_of c.self.inside.pairs.items
 
--- the index is the next one, and there is a slot for it
+-- The new index is the number of hashes.
 next : (g : _) (c : After-push_reserved g) → c.len-position.result ≡ length (old g c)
 next g c = omega (arith, c.len-position.ensures, c.self.inside.pairs.ok.0, length-hashes g.H.KeyHash.hash_of c.self.inside.pairs.items)
 
 inside : (g : _) (c : After-push_reserved g) → c.len-position.result < length c.self.inside.slots
 inside g c = omega (arith, room g c, next g c, length-hashes g.H.KeyHash.hash_of c.self.inside.pairs.items, c.self.invariant.size)
 
--- the slots keep this part of the hash
+-- `kept` is the part of the key's hash that the slots keep.
 part : (g : _) (c : After-push_reserved g) → c.args.kept ≡ kept (length c.self.inside.slots) (g.H.KeyHash.hash_of c.args.key)
 part g c = c.requires.kept ∙ ap (λ n. kept n (g.H.KeyHash.hash_of c.args.key)) (sym (ap (λ (t : Placed g.row.V.Denot). length t.slots) c.self.view_is)
     ∙ positions-length c.self.inside.slots)

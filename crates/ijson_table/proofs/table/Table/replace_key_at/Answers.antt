@@ -8,7 +8,7 @@ use Rattle.ijson_table.proofs.pairs.Shown.{count_shown, pairs_shown}
 use Rattle.ijson_table.proofs.table.Table.replace_key_at.Goals.{After-replace}
 use Rattle.ijson_table.proofs.table.Table.replace_key_at.Goals as goal
 
--- the pairs with the new key
+-- Setting the pair at `index` to the new key and its old value equals `with_key`.
 now : (g : _) (c : After-replace g) → set c.self.inside.pairs.items c.args.index (c.replace.new.dest, c.index_mut.result.now.1)
     ≡ with_key c.self.inside.pairs.items c.args.index c.args.key
 now g c =

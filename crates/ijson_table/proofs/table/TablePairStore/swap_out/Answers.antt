@@ -18,11 +18,11 @@ invariant_of-self-inside g c =
     c.swap_remove-2.ensures.items ∙ swap_out-is old c.args.index c.swap_remove-2.result li in
     (subst (λ ps. IsDistinct (keys_of ps)) (sym now) (distinct_swapped old c.args.index c.self.inside.distinct li), tt)
 
--- the index is below the length
+-- `index` is below the length.
 within : (g : _) (c : goal.After-self-1 g) → c.args.index < length c.self.inside.pairs.items
 within g c = omega (arith, count_shown c.self.view_is, c.requires)
 
--- the remaining pairs
+-- The remaining pairs are the result of `swap_out`.
 left : (g : _) (c : goal.After-self-1 g) → c.swap_remove-2.new.self.items ≡ swap_out c.self.inside.pairs.items c.args.index
 left g c = c.swap_remove-2.ensures.items ∙ swap_out-is c.self.inside.pairs.items c.args.index c.swap_remove-2.result (within g c)
 

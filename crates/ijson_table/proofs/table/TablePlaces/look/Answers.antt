@@ -10,7 +10,7 @@ use Rattle.ijson_table.proofs.slots.HashesInSlots.{positions-length}
 use Rattle.ijson_table.proofs.table.TablePlaces.look.Goals as goal
 use Rattle.ijson_table.proofs.table.TablePlaces.look.Goals.{After-at-there, in-None, in-Some}
 
--- the slot is one of the slots
+-- `slot` is below the number of slots.
 inside : (g : _) (c : After-at-there g) → c.args.slot < length c.self.inside.slots
 inside g c = omega (
   arith,

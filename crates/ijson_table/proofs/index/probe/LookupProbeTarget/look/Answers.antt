@@ -14,14 +14,14 @@ use Rattle.ijson_table.proofs.slots.HashesInSlots.{positions-length, seen_at}
 use Rattle.ijson_table.proofs.index.probe.LookupProbeTarget.look.Goals as goal
 use Rattle.ijson_table.proofs.index.probe.LookupProbeTarget.look.Goals.{After-widened-there, then-there-self, else-there-self}
 
--- the represented slots, and the hashes of the keys
+-- The represented slots. `hashes` has the hashes of the keys.
 abbrev slots_seen : (g : _) (c : After-widened-there g) → List Slot
 slots_seen g c = map g.S.StoredSlot.stands_for c.args.self.now.slots.now
 
 abbrev hashes : (g : _) (c : After-widened-there g) → List ℕ
 hashes g c = map g.H.KeyHash.hash_of (keys_of c.args.self.now.pairs.now)
 
--- the value read
+-- The slot that was read has the resident of slot `slot` and the kept part of its key's hash.
 read : (g : _) (c : After-widened-there g) → ReadAt (hashes g c) (slots_seen g c) c.args.slot c.widened-there.result
 read g c =
     let within : c.args.slot < length (slots_seen g c) = omega (arith, c.requires.within, positions-length (slots_seen g c)) in
@@ -29,7 +29,7 @@ read g c =
     (c.widened-there.ensures.value ∙ (ap g.S.StoredSlot.stands_for (sym c.index-self-slot.is)
     ∙ seen_at g.S.StoredSlot.stands_for c.args.self.now.slots.now c.args.slot c.index-self-slot.result within c.index-self-slot.is))
 
--- an index there is one of the pairs
+-- An index in the slot that was read is below the number of pairs.
 listed : (g : _) (c : After-widened-there g) (i : ℕ) → position_in c.widened-there.result ≡ Some i → i < length (keys_of c.args.self.now.pairs.now)
 listed g c i at = omega (
   arith,

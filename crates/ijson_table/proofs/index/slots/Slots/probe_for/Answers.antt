@@ -17,7 +17,8 @@ use Rattle.ijson_table.proofs.slots.HashesInSlots.{positions-length}
 use Rattle.ijson_table.proofs.index.slots.Slots.probe_for.Goals.{Joined-self, in-Few, in-Narrow}
 use Rattle.ijson_table.proofs.index.slots.Slots.probe_for.Goals as goal
 
--- the walk over the slots as they are stored
+-- A probe that satisfies `Ends` on the stored slots satisfies `Walks` on the slots that they
+-- represent.
 walks : (hash : List ℕ → ℕ) (stored seen : List Slot) (keys : List (List ℕ)) (home count : ℕ) (key : List ℕ) (looks : ℕ) (end : Probed)
     → stored ≡ seen → home ≡ home_of hash count key → count ≡ length seen
     → Ends (positions stored) (displacement (map hash keys) (positions stored)) home (is_key keys key) looks end
@@ -33,7 +34,7 @@ returns-in-Wide-clause-ends g c = walks g.H.KeyHash.hash_of (map (λ s. s) c.der
     (map-id c.deref.result.now ∙ (c.deref.ensures.value ∙ (ap stored_slots (sym c.in-Wide.is) ∙ c.self.view_is)))
     c.requires.home c.requires.counted c.probe.ensures.ends
 
--- the slots of three bytes each
+-- The three-byte slots represent the slots of `self`.
 narrow_is : (g : _) (c : Joined-self g) → map widened c.match-self.narrow.now ≡ c.args.self.now
 narrow_is g c = elim c.match-self.branch [
   | in-Few w ↦ ap (λ (s : Bor (List NarrowSlot)). map widened s.now) w.narrow-is

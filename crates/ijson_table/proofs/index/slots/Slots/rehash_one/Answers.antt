@@ -18,15 +18,15 @@ use Rattle.ijson_table.proofs.index.slots.Slots.rehash_one.Given.{Over}
 use Rattle.ijson_table.proofs.index.slots.Slots.rehash_one.Goals.{After-vacant_slot-slot, After-remove_index-modulus}
 use Rattle.ijson_table.proofs.index.slots.Slots.rehash_one.Goals as goal
 
--- there is a slot for each index
+-- The number of indices is at most the number of slots.
 room : (g : Over) (c : After-remove_index-modulus g) → length (hashes g.H.KeyHash.hash_of c.args.pairs.now) ≤ length c.remove_index-modulus.new.slots
 room g c = omega (arith, c.requires.room, c.remove_index-modulus.ensures.count, length-hashes g.H.KeyHash.hash_of c.args.pairs.now)
 
--- the index is below the number of keys
+-- Index `position` is below the number of keys.
 inside : (g : Over) (c : After-remove_index-modulus g) → c.args.position < length (hashes g.H.KeyHash.hash_of c.args.pairs.now)
 inside g c = omega (arith, c.requires.within, length-hashes g.H.KeyHash.hash_of c.args.pairs.now)
 
--- after the removal a slot is empty
+-- After index `position` is removed, a slot is empty.
 empty : (g : Over) (c : After-remove_index-modulus g) → HasEmpty (positions c.remove_index-modulus.new.slots)
 empty g c =
     let held = c.remove_index-modulus.ensures.left.holds in
@@ -38,7 +38,7 @@ empty g c =
 pub vacant_slot-slot-requires-clause-empty : goal.vacant_slot-slot-requires-clause-empty
 vacant_slot-slot-requires-clause-empty g c = empty g (goal.at.vacant_slot-slot-requires-clause-empty g c).After-remove_index-modulus
 
--- the index may be inserted again, by its new hash
+-- Index `position` may be inserted again, by its new hash, at the slot at which the probe ended.
 may : (g : Over) (c : After-vacant_slot-slot g) → MayPut (set (hashes g.H.KeyHash.hash_of c.args.pairs.now) c.args.position c.args.hash)
     c.remove_index-modulus.new.slots c.args.position c.split-home.result.1 c.vacant_slot-slot.result
 may g c =

@@ -8,7 +8,7 @@ use Rattle.ijson_table.specs.private.NarrowSlots.{stored_slots, IsStoredByCount}
 use Rattle.ijson_table.proofs.index.slots.Slots.shift_forward.Goals.{in-Few, in-Narrow, in-Wide}
 use Rattle.ijson_table.proofs.index.slots.Slots.shift_forward.Goals as goal
 
--- The represented slots before and after a call that inserts the index into the stored ones.
+-- If `IsPut` holds for `old` and `new`, it holds for lists of slots that are equal to them.
 put_as : (hashes : List ℕ) (position hash from : ℕ) (old old' new new' : List Slot) (last last' : ℕ)
     → ((hashes : List ℕ) → MayPut hashes old position hash from → IsPut hashes old position from last new)
     → old ≡ old' → new ≡ new' → last ≡ last' → MayPut hashes old' position hash from → IsPut hashes old' position from last' new'

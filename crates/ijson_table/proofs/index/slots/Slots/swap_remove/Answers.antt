@@ -16,7 +16,7 @@ returns-then-position-last-clause-table g c =
     omega (arith, c.if-position-last.true, c.requires.within, length-hashes g.H.KeyHash.hash_of c.args.pairs.now) in
     rw (swap_remove-last hs c.args.position is_last) (last_out _ _ _ c.remove_index-modulus.ensures.left is_last)
 
--- the slot of the last index
+-- If `position` is not the last index, the last index is still in a slot after the removal.
 still : (g : Over) (c : After-remove_index-modulus g) → c.args.position ≢ length c.args.pairs.now - 1 → (p : ℕ) × (p < length (positions c.remove_index-modulus.new.slots))
     × (resident (positions c.remove_index-modulus.new.slots) p ≡ Some (length c.args.pairs.now - 1))
 still g c other = stands_still _ _ _ c.remove_index-modulus.ensures.left (length c.args.pairs.now - 1)

@@ -9,7 +9,7 @@ use Rattle.ijson_table.proofs.index.slots.Slots.with_count.Goals.{else-count-le-
 use Rattle.ijson_table.proofs.index.slots.Slots.with_count.Goals.{else-count-le-FEW_SLOTS+else-count-le-NARROW_SLOTS+in_ok-vec-2}
 use Rattle.ijson_table.proofs.index.slots.Slots.with_count.Goals as goal
 
--- in any representation, the slots are empty
+-- In each representation, all new slots are empty.
 none : (c : Joined-count-le-FEW_SLOTS) → IsEmpty (stored_slots c.if-count-le-FEW_SLOTS.stored)
 none c = elim c.if-count-le-FEW_SLOTS.branch [
   | then-count-le-FEW_SLOTS w ↦
