@@ -1,4 +1,4 @@
--- Distinct keys, and the entries that a map yields.
+-- The keys of a map are distinct, and the iterator of a map yields its entries in order.
 use Rattle.std.proofs.Common.{◌≡◌, ◌≢◌, ◌+◌, ℕ, suc, List, [], ◌∷◌, ◌++◌, length, map, Some, false}
 use Rattle.std.proofs.Common.{ap, sym, subst, ◌∙◌, arith}
 use mathlib.Core.Bool.{true≢false}
@@ -16,25 +16,27 @@ use Rattle.std.specs.declared.cmp.Ordering.TheVariants.{Less}
 use Rattle.ijson_table.specs.Store.{keys_of, Lacks, IsDistinct}
 use Rattle.ijson_value.specs.private.GivesPairs.{GivesDistinctPairs}
 
--- ---- distinct keys
+-- A key that the list lacks differs from each key of the list.
 lacks_middle : (ks rest : List (List ℕ)) (j k : List ℕ) → Lacks j (ks ++ k ∷ rest) → k ≢ j
 lacks_middle [] rest j k l = λ e. l.0 (sym e)
 lacks_middle (i ∷ ks) rest j k l = lacks_middle ks rest j k l.1
 
+-- In a list of distinct keys, a key does not occur among the keys before it.
 pub lacks_before : (ks : List (List ℕ)) (k : List ℕ) (rest : List (List ℕ)) → IsDistinct (ks ++ k ∷ rest) → Lacks k ks
 lacks_before [] k rest d = tt
 lacks_before (j ∷ ks) k rest d = (lacks_middle ks rest j k d.0, lacks_before ks k rest d.1)
 
--- the keys of a map, by their bytes
+-- The function `bytes` returns the bytes of a key of the map.
 module _ {K X : Type 0} (bytes : K → List ℕ) where
-  -- a key is not among keys that it is apart from
+  -- If a key is `Apart` from each key of a list, and no key is `Apart` from itself, then the list
+  -- lacks the key.
   lacks_apart : (Apart : List ℕ → List ℕ → Type 0) → ((k : List ℕ) → Apart k k → ⊥) → (x : K) (es : List (K × X))
       → AllByRecursion (λ y. Apart (bytes x) (bytes y)) (map_keys es) → Lacks (bytes x) (map (λ e. bytes e.0) es)
   lacks_apart Apart never x [] a = tt
   lacks_apart Apart never x (e ∷ es) a =
       (λ q. never (bytes x) (subst (Apart (bytes x)) (sym q) a.0), lacks_apart Apart never x es a.1)
 
-  -- keys are distinct if no two are equal
+  -- Keys are distinct if no two of them are equal.
   pub unique_keys : (es : List (K × X)) → IsUnique (λ x y. pointwise nat_eq (bytes x) (bytes y)) (map_keys es)
       → IsDistinct (map (λ e. bytes e.0) es)
   unfolding IsUnique
@@ -44,7 +46,7 @@ module _ {K X : Type 0} (bytes : K → List ℕ) where
     unique_keys es d.1,
   )
 
-  -- keys are distinct if they ascend
+  -- Keys are distinct if they are in strictly ascending order.
   pub ordered_keys : (es : List (K × X)) → IsStrictlySortedBy (λ x y. slice_cmp nat_cmp (bytes x) (bytes y)) (map_keys es)
       → IsDistinct (map (λ e. bytes e.0) es)
   unfolding IsStrictlySortedBy
@@ -54,25 +56,31 @@ module _ {K X : Type 0} (bytes : K → List ℕ) where
     ordered_keys es d.1,
   )
 
--- ---- the entries that the iterator of a map yields
+-- An iterator that takes the first element of its list yields the list in order.
 module _ {X : Type 0} where
+  -- If an iterator over the list `s` yields `xs` and becomes an iterator over `t`, then `s` is
+  -- `xs ++ t`.
   yielded : (xs s t : List X) → Yields (TakesFirst (λ (x : X). x)) s xs t → s ≡ xs ++ t
   yielded [] s t y = y
   yielded (x ∷ xs) s t y = y.1 ∙ ap (λ l. x ∷ l) (yielded xs y.0 t y.2)
 
+  -- If an iterator over the list `s` yields `xs` until the end, then `s` is `xs`.
   pub all_given : (s xs : List X) → Drains (TakesFirst (λ (x : X). x)) s xs → s ≡ xs
   all_given s xs d = yielded xs s d.1.0 d.1.1 ∙ ap (λ l. xs ++ l) d.1.2.0 ∙ append-nil xs
 
+  -- If an iterator over the list `s` yields `xs` and `x` and becomes an iterator over `u`, then `s`
+  -- is `xs ++ x ∷ u`.
   pub then_given : (s xs : List X) (x : X) (u : List X) → YieldsThen (TakesFirst (λ (x : X). x)) s xs (Some x) u → s ≡ xs ++ x ∷ u
   then_given s xs x u d = yielded xs s d.0 d.1 ∙ ap (λ l. xs ++ l) d.2
 
 module _ {X : Type 0} {entries : List (List ℕ × X)} where
-  -- an iterator that begins with these entries yields them and nothing else
+  -- An iterator over the list `entries` yields exactly `entries`.
   pub entries_given : {it : List (List ℕ × X)} → it ≡ entries → (xs : List (List ℕ × X))
       → Drains (TakesFirst (λ (p : List ℕ × X). p)) it xs → xs ≡ entries
   entries_given {it} start xs drains = sym (all_given it xs drains) ∙ start
 
-  -- a map whose iterator begins with these entries yields no others
+  -- If the iterator of a source yields `count` entries with distinct keys, then the source
+  -- satisfies `GivesDistinctPairs`.
   pub map_gives : {U : Type 0} {becomes : U → List (List ℕ × X) → Type 0} {source : U}
       → ((it : List (List ℕ × X)) → becomes source it → it ≡ entries) → {count : ℕ} → count ≡ length entries
       → IsDistinct (keys_of entries) → GivesDistinctPairs becomes (TakesFirst (λ (p : List ℕ × X). p)) source count

@@ -1,5 +1,4 @@
--- The `Entry` that a key has in an object, and the object in it: an existing key needs no capacity; for a missing one there is capacity for
--- one more entry.
+-- The results of `entry` and `entry_or_clone`, and the object that they leave.
 use Rattle.std.specs.Prelude.{◌≡◌, ◌<◌, ◌⊎◌, ℕ, List, None, IsSome, length}
 use Rattle.ijson_table.specs.Growth.{Grown, Ungrown}
 use Rattle.ijson_table.specs.Store.{Store, at, lookup}
@@ -9,17 +8,21 @@ use Rattle.ijson_value.specs.WellFormed.{WellFormed}
 use Rattle.ijson_value.specs.declared.object.entry.Entry.{Entry}
 use Rattle.ijson_value.specs.declared.object.entry.Entry.TheVariants.{Occupied, Vacant}
 
+-- Holds if the `Entry` is a view of `key` in the object `old`. An occupied entry leaves the object
+-- unchanged. A vacant entry has reserved capacity for one more entry.
 abbrev pub FindsEntry : Store WellFormed → List ℕ → Entry → Type 0
 FindsEntry old key (Occupied o) = IsSome (at old.pairs key) × (o.object.now ≡ old)
 FindsEntry old key (Vacant v) =
     (at old.pairs key ≡ None) × (v.object.now.pairs ≡ old.pairs)
     × Grown (length old.pairs) old.capacity 1 v.object.now.capacity
 
--- no `Entry`: the key is missing, and reserving capacity failed
+-- Holds if `key` is missing and reserving capacity for it fails with the error `why`.
 abbrev pub FindsNoRoom : Store WellFormed → List ℕ → ReserveError → Type 0
 FindsNoRoom old key why = (lookup key old.pairs ≡ None) × Ungrown (length old.pairs) old.capacity 1 why old.capacity
 
--- no capacity, or the key could not be cloned, since its reference count was saturated
+-- Holds if `key` is missing and no `Entry` is created, because reserving capacity fails or because
+-- `key` cannot be cloned. Cloning fails only for keys of more than 7 bytes, with the error
+-- `Memory`.
 abbrev pub FindsNoRoomOrCopy : Store WellFormed → List ℕ → ReserveError → Type 0
 FindsNoRoomOrCopy old key why =
     FindsNoRoom old key why ⊎ ((lookup key old.pairs ≡ None) × (7 < length key) × (why ≡ Memory))

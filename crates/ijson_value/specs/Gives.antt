@@ -1,16 +1,17 @@
--- The elements that a source yielded, from the iterator that `into_iter` made of it.
+-- The elements that a source yields. `becomes` relates a source to the iterator that `into_iter`
+-- returns, and `steps` relates an iterator to the result of `next` and to the iterator after it.
 use Rattle.std.specs.Prelude.{◌≡◌, List, Option, Some}
 use Rattle.std.specs.Iterator.{Drains, YieldsThen}
 
 module _ {U T A : Type 0} (becomes : U → T → Type 0) (steps : T → Option A → T → Type 0) (source : U) where
-  -- these elements until the end
+  -- Holds if an iterator of the source yields exactly the elements `xs` and then ends.
   abbrev pub GivesAll : List A → Type 0
   GivesAll xs = (it : T) × becomes source it × Drains steps it xs
 
-  -- these elements, then one more
+  -- Holds if an iterator of the source yields the elements `xs` and then the element `x`.
   abbrev pub GivesThen : List A → A → Type 0
   GivesThen xs x = (it : T) × (rest : T) × becomes source it × YieldsThen steps it xs (Some x) rest
 
-  -- all that it yields until the end is these elements
+  -- Holds if `all` is the only list of elements that the source can yield until the end.
   abbrev pub GivesList : List A → Type 0
   GivesList all = (xs : List A) → GivesAll xs → xs ≡ all

@@ -1,7 +1,9 @@
--- Entries inserted in order, each with the capacity it needs.
+-- The effect of inserting a list of entries in order.
 use Rattle.std.specs.Prelude.{◌≡◌, ℕ, List, [], ◌∷◌, Option, Ok}
 use Rattle.ijson_table.specs.Inserts.{Inserts}
 
+-- Holds if inserting the listed entries in order turns `pairs` with capacity `c` into `pairs'` with
+-- capacity `c'`. Every insertion succeeds.
 abbrev pub InsertsEach : {V : Type 0} → List (List ℕ × V) → ℕ → List (List ℕ × V) → List (List ℕ × V) → ℕ → Type 0
 InsertsEach pairs c [] pairs' c' = (pairs' ≡ pairs) × (c' ≡ c)
 InsertsEach {V} pairs c (pair ∷ added) pairs' c' =

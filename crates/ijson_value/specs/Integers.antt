@@ -1,14 +1,14 @@
--- Whole numbers as values.
+-- Trees that are numbers equal to an integer.
 use Rattle.std.specs.Prelude.{ℤ}
 use Rattle.ijson_number.specs.Integers.{HasValue, IsInteger}
 use Rattle.ijson_value.specs.Tree.{Tree, number}
 
--- the tree is a number equal to z
+-- Holds if the tree is a number equal to `z`.
 abbrev pub HasInteger : Tree → ℤ → Type 0
 HasInteger (number n) z = HasValue n z
 HasInteger _ z = ⊥
 
--- the tree is the number z without a decimal point
+-- Holds if the tree is a number equal to `z` and written without a decimal point.
 abbrev pub IsIntegerTree : Tree → ℤ → Type 0
 IsIntegerTree (number n) z = IsInteger n z
 IsIntegerTree _ z = ⊥

@@ -1,4 +1,4 @@
--- The kind of a tree. As in the Rust crate `ijson`.
+-- The kind of a tree, as in the Rust crate `ijson`.
 use Rattle.ijson_value.specs.Tree.{Tree, null, boolean, number, string, array, object}
 use Rattle.ijson_value.specs.declared.value.ValueType.{ValueType}
 use Rattle.ijson_value.specs.declared.value.ValueType.TheVariants.{Null, Bool, Number, String, Array, Object}

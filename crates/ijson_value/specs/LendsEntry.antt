@@ -1,4 +1,4 @@
--- The object or the `Entry` after a mutable borrow of its value ends: the key has the last value written.
+-- Clauses for functions that return a mutable reference to the value of an `Entry`.
 use Rattle.std.specs.Prelude.{◌≡◌, [], Result}
 use Rattle.std.specs.Borrow.{follows, RestsIfErr, MutBor, Fml}
 use mir.Syntax.{named}
@@ -12,16 +12,17 @@ use Rattle.ijson_value.specs.contracts.value.IValue as value
 use Rattle.ijson_value.specs.declared.object.entry.Entry.{Entry}
 use Rattle.ijson_value.specs.declared.object.entry.OccupiedEntry.{OccupiedEntry}
 
--- the object of an `Entry` that is consumed
+-- Holds if writing through `r` sets the value of the key in the object of `e`. The borrow consumes
+-- the `Entry` `e`.
 abbrev pub EntryLends : Entry → MutBor WellFormed → Fml
 EntryLends e r = follows object.the_row value.the_row (entry_object e).ghost_name r.ghost_name (with_entry e)
 
--- an `Entry` that remains
+-- Holds if writing through `r` sets the value of the occupied entry `o`, which remains usable.
 abbrev pub OccupiedLends : MutBor OccupiedEntry → MutBor WellFormed → Fml
 OccupiedLends o r =
     follows (occupied.the_row (record { mir = named 1; lft = [] })) value.the_row
     o.ghost_name r.ghost_name (with_entry_value o.now)
 
--- if there is no `Entry`, the object is unchanged
+-- Holds if `r` is an `Entry` of the object `s`, or if `r` is an error and `s` is unchanged.
 abbrev pub RestsIfNoEntry : {E : Type 0} → MutBor (Store WellFormed) → Result Entry E → Fml
 RestsIfNoEntry s r = RestsIfErr object.the_row s (λ e. (entry_object e).ghost_name) r (λ o. o ≡ s.now)

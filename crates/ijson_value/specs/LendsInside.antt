@@ -1,11 +1,12 @@
--- When a mutable borrow of the value at a step ends, the outer value has the last value written at that step, and is otherwise unchanged.
+-- Clauses for functions that return a mutable reference to a value one step inside another value.
 use Rattle.std.specs.Prelude.{◌≡◌, Option, OnSome}
 use Rattle.std.specs.Borrow.{LendsSo, MutBor, Fml}
 use Rattle.ijson_value.specs.Step.{Step, tree_with}
 use Rattle.ijson_value.specs.WellFormed.{WellFormed}
 use Rattle.ijson_value.specs.contracts.value.IValue as value
 
--- the value at `step`; if it does not exist, the outer value is unchanged
+-- Holds if writing through `r` sets the value at `step` in `s`, or if `r` is `None` and `s` is
+-- unchanged.
 abbrev pub LendsInsideIf : MutBor WellFormed → Step → Option (MutBor WellFormed) → Fml
 LendsInsideIf s step r =
     LendsSo value.the_row value.the_row s r (λ n w. OnSome r (n.tree ≡ tree_with s.now.tree step w.tree))

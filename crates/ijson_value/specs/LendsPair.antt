@@ -1,4 +1,5 @@
--- An object after a mutable borrow of a value with its key ends: the key has the last value written, and nothing else has changed.
+-- Clauses for functions that return a mutable reference to the value of a key, together with the
+-- key.
 use Rattle.std.specs.Prelude.{ℕ, List, Option, Some, None}
 use Rattle.std.specs.Borrow.{follows_if, GName, Bor, MutBor, Fml}
 use mathlib.Core.Option as maybe
@@ -8,11 +9,12 @@ use Rattle.ijson_value.specs.WellFormed.{WellFormed}
 use Rattle.ijson_value.specs.contracts.object.map.IObject as object
 use Rattle.ijson_value.specs.contracts.value.IValue as value
 
--- the name of the reference to the value
+-- The ghost name of the mutable reference to the value, or `none` for `None`.
 abbrev pub pair_name : Option (Bor (List ℕ) × MutBor WellFormed) → maybe.Option GName
 pair_name (Some pair) = maybe.some pair.1.ghost_name
 pair_name None = maybe.none
 
--- the entry of a key; if there is none, the object is unchanged
+-- Holds if writing through `r` sets the value of `key` in `s`, or if `r` is `None` and `s` is
+-- unchanged.
 abbrev pub LendsPairIf : MutBor (Store WellFormed) → List ℕ → Option (Bor (List ℕ) × MutBor WellFormed) → Fml
 LendsPairIf s key r = follows_if object.the_row value.the_row s.ghost_name (pair_name r) (with_key s.now key) s.now

@@ -1,5 +1,4 @@
--- An object after a mutable borrow of a value ends: the last value written is at its index; the keys, the other values and the capacity are
--- unchanged.
+-- Clauses for functions that return a mutable reference to the value at an index of an object.
 use Rattle.std.specs.Prelude.{ℕ, Option}
 use Rattle.std.specs.Borrow.{Lends, LendsIf, MutBor, Fml}
 use Rattle.ijson_table.specs.Store.{Store}
@@ -8,10 +7,11 @@ use Rattle.ijson_value.specs.WellFormed.{WellFormed}
 use Rattle.ijson_value.specs.contracts.object.map.IObject as object
 use Rattle.ijson_value.specs.contracts.value.IValue as value
 
--- the value at an index
+-- Holds if writing through `r` sets the value at index `i` of `s` and changes nothing else.
 abbrev pub LendsValue : MutBor (Store WellFormed) → ℕ → MutBor WellFormed → Fml
 LendsValue s i r = Lends object.the_row value.the_row s r (store_with_value s.now i)
 
--- the value at an index; if there is none, the object is unchanged
+-- Holds if writing through `r` sets the value at index `i` of `s`, or if `r` is `None` and `s` is
+-- unchanged.
 abbrev pub LendsValueIf : MutBor (Store WellFormed) → ℕ → Option (MutBor WellFormed) → Fml
 LendsValueIf s i r = LendsIf object.the_row value.the_row s r (store_with_value s.now i) s.now

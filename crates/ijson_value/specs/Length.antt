@@ -1,11 +1,13 @@
--- The number of elements of an array or entries of an object; other kinds have no length. As in the Rust crate `ijson`.
+-- The length of an array or an object, as in the Rust crate `ijson`.
 use Rattle.std.specs.Prelude.{ℕ, suc, Option, Some, None}
 use Rattle.ijson_value.specs.Tree.{Tree, null, boolean, number, string, array, object, Items, no_items, item, members_len}
 
+-- The number of elements.
 abbrev pub items_len : Items → ℕ
 items_len no_items = 0
 items_len (item t ts) = suc (items_len ts)
 
+-- The number of elements of an array or of entries of an object. Other kinds have no length.
 abbrev pub length_of : Tree → Option ℕ
 length_of null = None
 length_of (boolean b) = None

@@ -1,4 +1,4 @@
--- The value of a `Destructured`. As in the Rust crate `ijson`.
+-- The value with a given content, as in the Rust crate `ijson`.
 use Rattle.ijson_value.specs.Values.{null_value, boolean_value, number_value, string_value, array_value, object_value}
 use Rattle.ijson_value.specs.WellFormed.{WellFormed}
 use Rattle.ijson_value.specs.declared.value.Destructured.{Destructured}

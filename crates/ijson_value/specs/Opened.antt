@@ -1,4 +1,5 @@
--- The value of a `DestructuredRef` and of a `DestructuredMut`. As in the Rust crate `ijson`.
+-- The value whose content a `DestructuredRef` or a `DestructuredMut` refers to, as in the Rust
+-- crate `ijson`.
 use Rattle.ijson_value.specs.Values.{null_value, boolean_value, number_value, string_value, array_value, object_value}
 use Rattle.ijson_value.specs.WellFormed.{WellFormed}
 use Rattle.ijson_value.specs.declared.value.destructure.DestructuredRef.{DestructuredRef}
@@ -6,6 +7,7 @@ use Rattle.ijson_value.specs.declared.value.destructure.DestructuredRef.TheVaria
 use Rattle.ijson_value.specs.declared.value.destructure.DestructuredMut.{DestructuredMut}
 use Rattle.ijson_value.specs.declared.value.destructure.DestructuredMut.TheVariants as parts
 
+-- The value whose content the `DestructuredRef` refers to.
 abbrev pub ref_value : DestructuredRef → WellFormed
 ref_value Null = null_value
 ref_value (Bool b) = boolean_value b
@@ -14,6 +16,7 @@ ref_value (String s) = string_value s.now
 ref_value (Array a) = array_value a.now.items
 ref_value (Object o) = object_value o.now
 
+-- The value whose content the `DestructuredMut` refers to, before any write.
 abbrev pub mut_value : DestructuredMut → WellFormed
 mut_value parts.Null = null_value
 mut_value (parts.Bool b) = boolean_value b.place.now

@@ -1,5 +1,7 @@
--- The partial order of trees: different kinds by their order, numbers by value, strings by their bytes, arrays by the first element that
--- differs and then by length. Objects are Equal if they are the same, and otherwise unordered. As the Rust crate `ijson` has it.
+-- The partial order of trees, as in the Rust crate `ijson`. Trees of different kinds are ordered by
+-- kind, numbers by value, and strings by their bytes. Arrays are ordered by the first elements that
+-- are not `Equal`, then by length. Objects are `Equal` if they are the same, and otherwise
+-- unordered.
 use Rattle.std.specs.Prelude.{ℕ, cond, Option, Some, None}
 use Rattle.std.specs.Ordering.{nat_cmp, bool_cmp, partial_ordering_then}
 use Rattle.std.specs.Cmp.Lexicographic.{slice_cmp}
@@ -9,7 +11,7 @@ use Rattle.ijson_number.specs.Order.{number_cmp}
 use Rattle.ijson_value.specs.Tree.{Tree, null, boolean, number, string, array, object, Items, no_items, item}
 use Rattle.ijson_value.specs.SameTest.{same}
 
--- the rank of a kind in the order of kinds
+-- The rank of the kind of the tree in the order of kinds.
 abbrev pub rank : Tree → ℕ
 rank null = 0
 rank (boolean b) = 1
@@ -19,6 +21,7 @@ rank (array ts) = 4
 rank (object ps) = 5
 
 abbrev mutual
+  -- The order of two trees, or `None` if they are unordered.
   pub tree_cmp : Tree → Tree → Option Ordering
   tree_cmp null null = Some Equal
   tree_cmp (boolean a) (boolean b) = Some (bool_cmp a b)
@@ -28,7 +31,8 @@ abbrev mutual
   tree_cmp (object ps) (object qs) = cond (same (object ps) (object qs)) (Some Equal) None
   tree_cmp t u = Some (nat_cmp (rank t) (rank u))
 
-  -- the first order that is not Equal, which may be none, and then that of the lengths
+  -- The first order of two elements that is not `Equal`, or else the order of the lengths. The
+  -- result is `None` if those elements are unordered.
   pub items_cmp : Items → Items → Option Ordering
   items_cmp no_items no_items = Some Equal
   items_cmp no_items (item u us) = Some Less

@@ -1,12 +1,13 @@
--- The result and the effect of replacing a key.
+-- The result and the effect of `replace_key`.
 use Rattle.std.specs.Prelude.{◌≡◌, ◌≢◌, ℕ, List, Result, Ok, Err, None, IsSome}
 use Rattle.ijson_table.specs.Store.{at}
 use Rattle.ijson_value.specs.AtKey.{renamed_key}
 use Rattle.ijson_value.specs.declared.object.edits.RefusedReplacement.{RefusedReplacement}
 use Rattle.ijson_value.specs.declared.object.edits.RefusedReplacement.TheVariants.{Missing, Exists}
 
--- The key `from` of these entries is replaced by `to`, which leaves pairs'; or `to` is returned, since `from` is missing or another entry
--- has `to`, and the entries are unchanged.
+-- Holds if replacing the key `from` by `to` in `pairs` can have the given result and leave
+-- `pairs'`. If `from` is missing or another entry has `to`, the result is an error that returns
+-- `to`, and the entries are unchanged.
 abbrev pub ReplacesKey : {V : Type 0} → List (List ℕ × V) → List ℕ → List ℕ → Result (List ℕ) RefusedReplacement
     → List (List ℕ × V) → Type 0
 ReplacesKey pairs from to (Ok was) pairs' =

@@ -1,4 +1,4 @@
--- One step from a value to a value inside it: the index of an element, or a key of an object. As in the Rust crate `ijson`.
+-- Steps from a value to a value inside it, as in the Rust crate `ijson`.
 use Rattle.std.specs.Prelude.{ℕ, List, Option, None, set, slice_get}
 use Rattle.std.specs.List.{remove}
 use Rattle.ijson_table.specs.Store.{lookup, put}
@@ -7,28 +7,30 @@ use Rattle.ijson_value.specs.Tree.{Tree, array, object, items_of, items_list, me
 use Rattle.ijson_value.specs.declared.value.ValueType.{ValueType}
 use Rattle.ijson_value.specs.declared.value.ValueType.TheVariants.{Array, Object}
 
+-- The index of an element of an array, or a key of an object.
 pub data Step : Type 0 where
   by_position : ℕ → Step
   by_key : List ℕ → Step
 
--- the kind of value that a step is for
+-- The kind that a value must have for the step: an array for an index, an object for a key.
 abbrev pub kind_for : Step → ValueType
 kind_for (by_position i) = Array
 kind_for (by_key key) = Object
 
--- the tree that it leads to, or none
+-- The tree at the step, or `None` if no value exists there.
 abbrev pub tree_at : Tree → Step → Option Tree
 tree_at (array ts) (by_position i) = slice_get (items_list ts) i
 tree_at (object ps) (by_key key) = lookup key (members_list ps)
 tree_at _ _ = None
 
--- the tree with u there
+-- The tree with the value at the step replaced by `u`. A missing key is appended.
 abbrev pub tree_with : Tree → Step → Tree → Tree
 tree_with (array ts) (by_position i) u = array (items_of (set (items_list ts) i u))
 tree_with (object ps) (by_key key) u = object (members_of (put (members_list ps) key u))
 tree_with t _ u = t
 
--- the tree without the value there: elements after it are shifted, and the last entry replaces it
+-- The tree without the value at the step. Later elements of an array shift to the left. The last
+-- entry of an object replaces the removed entry.
 abbrev pub tree_without : Tree → Step → Tree
 tree_without (array ts) (by_position i) = array (items_of (remove (items_list ts) i))
 tree_without (object ps) (by_key key) = object (members_of (swap_out_key key (members_list ps)))

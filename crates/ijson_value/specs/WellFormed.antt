@@ -1,4 +1,4 @@
--- The model of a value: a tree whose numbers are Nums and whose objects have distinct keys.
+-- The model of a value: a tree whose numbers satisfy `IsNum` and whose objects have distinct keys.
 use Rattle.std.specs.Prelude.{ℕ, List, map}
 use Rattle.ijson_number.specs.Num.{IsNum}
 use Rattle.ijson_table.specs.Store.{IsDistinct}
@@ -6,6 +6,7 @@ use Rattle.ijson_value.specs.Tree.{Tree, null, boolean, number, string, array, o
 use Rattle.ijson_value.specs.Tree.{member, members_of, member_keys}
 
 abbrev mutual
+  -- Holds if each number in the tree satisfies `IsNum` and each object has distinct keys.
   pub IsWellFormed : Tree → Type 0
   IsWellFormed null = Unit {0}
   IsWellFormed (boolean b) = Unit {0}
@@ -14,28 +15,29 @@ abbrev mutual
   IsWellFormed (array ts) = AreWellFormed ts
   IsWellFormed (object ps) = IsDistinct (member_keys ps) × HaveWellFormed ps
 
-  -- each element is well-formed
+  -- Holds if each element is well-formed.
   pub AreWellFormed : Items → Type 0
   AreWellFormed no_items = Unit {0}
   AreWellFormed (item t ts) = IsWellFormed t × AreWellFormed ts
 
-  -- each entry has a well-formed value
+  -- Holds if each member has a well-formed value.
   pub HaveWellFormed : Members → Type 0
   HaveWellFormed no_members = Unit {0}
   HaveWellFormed (member k t ps) = IsWellFormed t × HaveWellFormed ps
 
--- a tree with the proof that it is well-formed
+-- A tree with a proof that the tree is well-formed.
 pub record WellFormed : Type 0 where
   pub tree : Tree
   pub well_formed : IsWellFormed tree
 
+-- The tree of a value.
 abbrev pub tree_of : WellFormed → Tree
 tree_of v = v.tree
 
--- the trees of values, as the elements of an array
+-- The trees of the values, as the elements of an array.
 abbrev pub item_trees : List WellFormed → Items
 item_trees vs = items_of (map tree_of vs)
 
--- entries of values, as the members of an object
+-- The entries with the trees of their values, as the members of an object.
 abbrev pub pair_trees : List (List ℕ × WellFormed) → Members
 pair_trees ps = members_of (map (λ p. (p.0, tree_of p.1)) ps)

@@ -1,4 +1,4 @@
--- An object and an `Entry` after a value is written for the key.
+-- The object and the `Entry` after a value is written through the `Entry`.
 use Rattle.std.specs.Prelude.{◌≡◌, ℕ, List, [], ◌∷◌, ◌++◌}
 use Rattle.ijson_table.specs.Store.{Store, put}
 use Rattle.ijson_table.specs.StoreWithValue.{store_with_value}
@@ -9,7 +9,7 @@ use Rattle.ijson_value.specs.declared.object.entry.Entry.TheVariants.{Occupied, 
 use Rattle.ijson_value.specs.declared.object.entry.OccupiedEntry.{OccupiedEntry}
 use Rattle.ijson_value.specs.laws.EntryValid.{still_valid}
 
--- the object with w as the value of the key
+-- The object of the `Entry` with `w` as the value of the key. A missing key is appended.
 abbrev pub with_entry : Entry → WellFormed → Store WellFormed
 with_entry (Occupied o) w = store_with_value o.object.now o.index w
 with_entry (Vacant v) w = record {
@@ -18,11 +18,11 @@ with_entry (Vacant v) w = record {
   distinct = distinct_pushed v.object.now.pairs v.key w v.object.now.distinct v.missing;
 }
 
--- writing through the `Entry` is `put`
+-- Holds if writing any value through the `Entry` has the same effect as putting the value at `key`.
 abbrev pub PutsThrough : List (List ℕ × WellFormed) → List ℕ → Entry → Type 0
 PutsThrough pairs key e = (w : WellFormed) → (with_entry e w).pairs ≡ put pairs key w
 
--- the `Entry` with w as its value
+-- The occupied entry `o` with `w` as its value.
 abbrev pub with_entry_value : OccupiedEntry → WellFormed → OccupiedEntry
 with_entry_value o w = record {
   object = record o.object { now = store_with_value o.object.now o.index w };

@@ -1,5 +1,5 @@
--- The words that a value feeds a hasher, by its tree. Each word is one `write_u64`. Those of an object do not depend on the order of its
--- entries.
+-- The 64-bit words that a value feeds to a hasher, each by one `write_u64`. The words of an object
+-- do not depend on the order of its entries.
 use Rattle.std.specs.Prelude.{ℕ, ◌+◌, ◌%◌, ◌^◌, cond, List, [], ◌∷◌, ◌++◌}
 use Rattle.ijson_number.specs.Words.{number_words}
 use Rattle.ijson_string.specs.Words.{text_words}
@@ -9,6 +9,7 @@ use Rattle.ijson_value.specs.Tree.{Tree, null, boolean, number, string, array, o
 use Rattle.ijson_value.specs.Tree.{members_len}
 
 abbrev mutual
+  -- The words that the tree feeds to a hasher.
   pub words : Tree → List ℕ
   words null = 0 ∷ []
   words (boolean b) = 1 ∷ cond b 1 0 ∷ []
@@ -17,12 +18,13 @@ abbrev mutual
   words (array ts) = 4 ∷ items_len ts ∷ item_words ts
   words (object ps) = 5 ∷ members_len ps ∷ (pair_sum ps % 2 ^ 64) ∷ []
 
-  -- the words of each element in order
+  -- The words of all elements, in order.
   pub item_words : Items → List ℕ
   item_words no_items = []
   item_words (item t ts) = words t ++ item_words ts
 
-  -- the sum, over the entries, of the fold of the key's and the value's words
+  -- The sum of the folds of all members. The fold of a member combines the words of its key and of
+  -- its value.
   pub pair_sum : Members → ℕ
   pair_sum no_members = 0
   pair_sum (member k t ps) = fold_words (text_words k ++ words t) + pair_sum ps

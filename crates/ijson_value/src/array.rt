@@ -22,8 +22,8 @@ use thiserror::Error;
 
 /// A growable array of values.
 ///
-/// It is one pointer to a heap list; an array that has not allocated has none. It takes 16 bytes, plus the header of its list and 24 bytes
-/// for each element of its capacity.
+/// An array takes 16 bytes, including a pointer to its heap list, which exists after the first
+/// allocation. The list takes a header and 24 bytes for each element of its capacity.
 #[cycle(value)]
 #[derive(Drop)]
 pub struct IArray {
@@ -35,7 +35,7 @@ const _: () = prove!(size_of::<IArray>() == 16);
 
 /// The minimum capacity that `reserve`, `push`, `insert` and `extend` allocate.
 ///
-/// `with_capacity` allocates exactly the capacity it is given.
+/// `with_capacity` allocates exactly the given capacity.
 const LEAST_ROOM: usize = 4;
 
 impl Model for IArray {
@@ -57,14 +57,14 @@ impl Model for IArray {
     ghost size_decreases = { λ a h. array_falls a.list a.alloc };
 }
 
-/// The element that an array had no memory for.
+/// An element that could not be added because an allocation failed.
 ///
-/// This element changed nothing. After `extend`, the elements before it are in the array.
+/// The element did not change the array. After `extend`, the array has the elements before it.
 #[derive(Debug, Drop, Error)]
 #[error("no memory for the element")]
 pub struct Refused(pub IValue);
 
-/// Converts to `Memory` and drops the element.
+/// Returns `Memory` and drops the element.
 impl From<Refused> for ReserveError {
     ghost use Rattle.ijson_table.specs.declared.store.ReserveError.TheVariants.{Memory};
 
@@ -101,9 +101,10 @@ impl IArray {
         IArray::of_list(alloc, Vec::with_capacity(alloc, capacity)?)
     }
 
-    /// Creates an array of the elements of `list`, without copying them.
+    /// Creates an array from the elements of `list`, without copying them.
     ///
-    /// It allocates the list's header, unless the list has no capacity. If that fails, the list is dropped.
+    /// Allocates only the header of the list, and nothing if the capacity of `list` is 0. If the
+    /// allocation fails, the list is dropped.
     pub(crate) fn of_list(alloc: Global, list: Vec<IValue>) -> Result<IArray, AllocError>
         ensures items { IfOk result (λ array. array.items ≡ list.items) }
         ensures room { IfOk result (λ array. array.capacity ≡ vec_capacity list) }
@@ -115,9 +116,9 @@ impl IArray {
         Ok(IArray::from_vec(alloc, list)?)
     }
 
-    /// Creates an array of the elements of `list`, without copying them.
+    /// Creates an array from the elements of `list`, without copying them.
     ///
-    /// It allocates the list's header.
+    /// Allocates only the header of the list.
     ///
     /// # Errors
     ///
@@ -176,11 +177,12 @@ impl IArray {
 
     /// Appends an element.
     ///
-    /// It allocates only if there is no spare capacity. The capacity then at least doubles, so a push takes amortized constant time.
+    /// Allocates only if there is no spare capacity. The capacity then at least doubles, so a push
+    /// takes amortized constant time.
     ///
     /// # Errors
     ///
-    /// Returns the element if the allocation fails. The array and its capacity stay as they were.
+    /// Returns the element if the allocation fails. The array and its capacity are unchanged.
     pub fn push(&mut self, item: IValue) -> Result<(), Refused>
         ensures ok { OnOk result (self.new.items ≡ self.old.items ++ item ∷ []) }
         ensures refused { IfErr result (λ refused.
@@ -203,11 +205,13 @@ impl IArray {
 
     /// Reserves capacity for at least `additional` more elements.
     ///
-    /// It allocates only if the spare capacity is too small. The capacity then at least doubles, and each element is moved at most once.
+    /// Allocates only if the spare capacity is too small. The capacity then at least doubles, and
+    /// each element is moved at most once.
     ///
     /// # Errors
     ///
-    /// Returns `AllocError` if the allocation fails or the capacity would overflow a `usize`. The array stays as it was.
+    /// Returns `AllocError` if the allocation fails or the capacity would overflow a `usize`. The
+    /// array is unchanged.
     pub fn reserve(&mut self, additional: usize) -> Result<(), AllocError>
         ensures items { self.new.items ≡ self.old.items }
         ensures ok { OnOk result (length self.new.items + additional ≤ self.new.capacity) }
@@ -232,11 +236,13 @@ impl IArray {
 
     /// Shrinks the capacity to the length.
     ///
-    /// Does not allocate if there is no spare capacity; otherwise it requests memory for a list of the length.
+    /// If there is spare capacity, requests memory for a list of exactly the length. Otherwise does
+    /// not allocate.
     ///
     /// # Errors
     ///
-    /// Returns `AllocError` if that request fails. The elements stay, and the capacity has not grown.
+    /// Returns `AllocError` if that request fails. The elements are unchanged, and the capacity
+    /// does not increase.
     pub fn shrink_to_fit(&mut self) -> Result<(), AllocError>
         ensures items { self.new.items ≡ self.old.items }
         ensures ok { OnOk result (self.new.capacity ≡ length self.new.items) }
@@ -254,11 +260,12 @@ impl IArray {
     }
 }
 
-/// Reserves capacity for `additional` more elements in a list.
+/// Reserves capacity for at least `additional` more elements in `list`.
 ///
-/// If there is not enough, the capacity becomes the maximum of twice the old one, the new length, and `LEAST_ROOM`. If one of these
-/// overflows a `usize`, no such memory exists, so the error is that of a failed allocation. Twice the old capacity never overflows, since
-/// an element takes 24 bytes, but no contract of `Vec` says so.
+/// If the spare capacity is too small, the capacity becomes the maximum of twice the old capacity,
+/// the new length, and `LEAST_ROOM`. If one of these overflows a `usize`, returns `AllocError`,
+/// because an allocation of that size cannot succeed. Twice the old capacity never overflows,
+/// because an element takes 24 bytes, but no contract of `Vec` states this.
 fn grow(list: &mut Vec<IValue>, additional: usize) -> Result<(), AllocError>
     ensures items { list.new.items ≡ list.old.items }
     ensures ok { OnOk result (length list.new.items + additional ≤ vec_capacity list.new) }

@@ -1,4 +1,4 @@
-//! Copies, by one recursion over values, slices of values and the entries of objects.
+//! Copying of values, arrays and objects.
 ghost use Rattle.std.specs.Prelude.{◌≡◌, IfOk, IsOk, length};
 
 use crate::array::IArray;
@@ -7,9 +7,9 @@ use crate::value::{Destructured, IValue};
 use ijson_string::IString;
 use std::alloc::{AllocError, Global};
 
-/// Returns a copy of a value.
+/// Returns a copy of `value`.
 ///
-/// Inlined, and its callees are not: so an element that is no container is copied without a call.
+/// Inlined, so that a loop over elements makes a call only for an array or an object.
 #[cycle(clone)]
 #[inline(always)]
 fn clone_value(value: &IValue) -> Result<IValue, AllocError>
@@ -29,7 +29,9 @@ fn clone_value(value: &IValue) -> Result<IValue, AllocError>
     Ok(IValue { node })
 }
 
-/// Returns an array of copies of `items`. An empty one does not allocate.
+/// Returns an array of copies of `items`.
+///
+/// An empty slice does not allocate.
 #[cycle(clone)]
 #[inline(never)]
 fn clone_items(alloc: Global, items: &[IValue]) -> Result<IArray, AllocError>
@@ -45,7 +47,9 @@ fn clone_items(alloc: Global, items: &[IValue]) -> Result<IArray, AllocError>
     IArray::of_list(alloc, copies)
 }
 
-/// Returns a copy of an object, without spare capacity. An empty one does not allocate.
+/// Returns a copy of `object`, without spare capacity.
+///
+/// An empty object does not allocate.
 #[cycle(clone)]
 #[inline(never)]
 fn clone_object(object: &IObject) -> Result<IObject, AllocError>
@@ -80,18 +84,21 @@ fn clone_pairs(
     Ok(copies)
 }
 
-/// Copies a value. Its strings are shared with the original.
+/// Copies a value. The copy shares the strings of the original.
 ///
-/// It allocates for each array and object that is not empty, for each boxed number, and for sorting if many keys of an object collide.
+/// Allocates for each nonempty array or object and for each boxed number. If many keys of an object
+/// collide, allocates to sort them.
 ///
 /// # Errors
 ///
-/// Returns `AllocError` if an allocation fails or the reference count of a string is saturated. The partial copy is dropped.
+/// Returns `AllocError` if an allocation fails or the reference count of a string is saturated. The
+/// partial copy is dropped.
 ///
 /// # Cost
 ///
-/// Linear in the value and the capacities of its objects; if many keys of an object collide, at most n log n in its entries. No key is
-/// hashed if its object has no spare capacity; any other key is hashed once, or twice if many collide.
+/// Linear in the size of the value and in the capacities of its objects. If many keys of an object
+/// collide, at most `n log n` in the number of its entries. An object without spare capacity hashes
+/// no keys. Any other object hashes each key once, or twice if many keys collide.
 impl Clone for IValue {
     ghost is_clone = { λ v copy. copy ≡ v };
 
@@ -100,9 +107,9 @@ impl Clone for IValue {
     }
 }
 
-/// Copies the elements; the capacity of the copy is their count.
+/// Copies the elements. The capacity of the copy is the number of elements.
 ///
-/// Errors and cost are those of `IValue::clone`.
+/// See `IValue::clone` for errors and cost.
 impl Clone for IArray {
     ghost is_clone = { λ a copy. (copy.items ≡ a.items) × (copy.capacity ≡ length a.items) };
 
@@ -113,9 +120,9 @@ impl Clone for IArray {
     }
 }
 
-/// Copies the entries in order; the capacity of the copy is their count.
+/// Copies the entries in order. The capacity of the copy is the number of entries.
 ///
-/// Errors and cost are those of `IValue::clone`.
+/// See `IValue::clone` for errors and cost.
 impl Clone for IObject {
     ghost is_clone = { λ o copy. (copy.pairs ≡ o.pairs) × (copy.capacity ≡ length o.pairs) };
 
@@ -129,7 +136,8 @@ impl Clone for IObject {
 impl IArray {
     /// Creates an array of copies of `items`.
     ///
-    /// Its capacity is their count, and an empty one does not allocate. Strings are shared, as by `IValue::clone`.
+    /// The capacity is the number of elements. An empty slice does not allocate. The copies share
+    /// the strings of the originals. See `IValue::clone` for errors and cost.
     pub fn from_slice(alloc: Global, items: &[IValue]) -> Result<IArray, AllocError>
         ensures items { IfOk result (λ array. array.items ≡ items.now) }
         ensures room { IfOk result (λ array. array.capacity ≡ length items.now) }

@@ -1,13 +1,14 @@
-//! Debug output: the content of a value as JSON with the escapes of `str`, without private fields.
+//! Debug output of values, arrays and objects: their content as JSON, with strings escaped as by
+//! `str`.
 
 use crate::array::IArray;
 use crate::object::IObject;
 use crate::value::{Destructured, IValue};
 use std::fmt;
 
-/// Formats a value as JSON, but strings with the escapes of `str`.
+/// Formats a value as JSON, except that strings are escaped as by the `Debug` of `str`.
 ///
-/// `to_json` of `ijson_json` writes JSON.
+/// For valid JSON, use `to_json` of `ijson_json`.
 impl fmt::Debug for IValue {
     #[cycle(debug)]
     fn fmt<W: fmt::Write>(&self, f: &mut fmt::Formatter<W>) -> fmt::Result {
@@ -22,7 +23,7 @@ impl fmt::Debug for IValue {
     }
 }
 
-/// Formats the array like the value that contains it.
+/// Formats the array like an `IValue` that contains it.
 impl fmt::Debug for IArray {
     #[cycle(debug)]
     fn fmt<W: fmt::Write>(&self, f: &mut fmt::Formatter<W>) -> fmt::Result {
@@ -34,7 +35,7 @@ impl fmt::Debug for IArray {
     }
 }
 
-/// Formats the object like the value that contains it.
+/// Formats the object like an `IValue` that contains it.
 impl fmt::Debug for IObject {
     #[cycle(debug)]
     fn fmt<W: fmt::Write>(&self, f: &mut fmt::Formatter<W>) -> fmt::Result {

@@ -1,4 +1,4 @@
-//! Hashing, by one recursion over values, slices of values and the entries of objects.
+//! Hashing of values, arrays and objects.
 ghost use Rattle.std.specs.Prelude.{◌≡◌, ℕ, List, ◌++◌, fold};
 ghost use Rattle.std.specs.Hash as fed;
 ghost use Rattle.std.specs.List.{flat_map};
@@ -17,10 +17,13 @@ use crate::word_fold::sum_of_pairs;
 use ijson_string::IString;
 use std::hash::{Hash, Hasher};
 
-/// States that values that mean the same feed the same words, at every depth and in every order.
+/// States the laws of the words that values feed to a hasher.
 ///
-/// No value's words are a proper prefix of another's, and values with the same words mean the same if the first contains no object. The
-/// function does nothing; calling it gives a proof these laws.
+/// Values that are the same feed the same words, at every depth and in every order of entries. No
+/// value's words are a proper prefix of another value's words. Two values that feed the same words
+/// are the same if the first contains no object.
+///
+/// The function does nothing. A proof calls it to use these laws.
 pub fn words_law()
     ensures same { (t u : Tree) → IsWellFormed t → IsWellFormed u → Same t u → words t ≡ words u }
     ensures ends { (t u : Tree) (x y : List ℕ) → IsWellFormed t → IsWellFormed u
@@ -29,7 +32,7 @@ pub fn words_law()
         → HoldsNoObject t → words t ++ x ≡ words u ++ y → Same t u }
 {}
 
-/// Feeds the words of a value.
+/// Feeds the words of `value` to `state`.
 #[cycle(hash)]
 fn hash_value<H: Hasher>(value: &IValue, state: &mut H)
     ensures { state.new ≡ fold H.write state.old (flat_map fed.u64 (words value.now.tree)) }
@@ -47,7 +50,7 @@ fn hash_value<H: Hasher>(value: &IValue, state: &mut H)
     }
 }
 
-/// Feeds the words of an array of these elements.
+/// Feeds the words of an array with the elements `items` to `state`.
 #[cycle(hash)]
 fn hash_items<H: Hasher>(items: &[IValue], state: &mut H)
     ensures { state.new ≡ fold H.write state.old (flat_map fed.u64 (words (array_tree items.now))) }
@@ -59,7 +62,7 @@ fn hash_items<H: Hasher>(items: &[IValue], state: &mut H)
     }
 }
 
-/// Feeds the words of an object of these entries.
+/// Feeds the words of an object with the entries `pairs` to `state`.
 fn hash_pairs<H: Hasher>(pairs: &[(IString, IValue)], state: &mut H)
     ensures { state.new ≡ fold H.write state.old (flat_map fed.u64 (words (object_tree pairs.now))) }
 {
@@ -68,10 +71,10 @@ fn hash_pairs<H: Hasher>(pairs: &[(IString, IValue)], state: &mut H)
     state.write_u64(sum_of_pairs(pairs));
 }
 
-/// Equal values feed the same words, each by one `write_u64`.
+/// Feeds the same words for equal values, each word by one `write_u64`.
 ///
-/// An object feeds 5, its length, and one word that does not depend on the order of its entries. It takes time linear in the value and does
-/// not allocate.
+/// An object feeds 5, its length, and one word that does not depend on the order of its entries.
+/// Takes time linear in the size of the value. Does not allocate.
 impl Hash for IValue {
     ghost hash_input = { λ v. flat_map fed.u64 (words v.tree) };
 
@@ -82,7 +85,7 @@ impl Hash for IValue {
     }
 }
 
-/// Hashes like the `IValue` of this array.
+/// Hashes the array like an `IValue` that contains it.
 impl Hash for IArray {
     ghost hash_input = { λ a. flat_map fed.u64 (words (array_tree a.items)) };
 
@@ -93,7 +96,7 @@ impl Hash for IArray {
     }
 }
 
-/// Hashes like the `IValue` of this object.
+/// Hashes the object like an `IValue` that contains it.
 impl Hash for IObject {
     ghost hash_input = { λ o. flat_map fed.u64 (words (object_tree o.pairs)) };
 

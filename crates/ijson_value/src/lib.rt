@@ -1,4 +1,4 @@
-//! JSON values: arrays, objects with distinct keys, and the value of any of the six kinds.
+//! JSON values, arrays, and objects with distinct keys.
 #![tactic(auto)]
 
 pub mod array;

@@ -1,4 +1,4 @@
-//! Objects: entries of a key and a value, in order, with distinct keys.
+//! JSON objects, whose entries have distinct keys and are in order.
 
 mod access;
 mod copy;

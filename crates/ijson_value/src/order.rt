@@ -1,4 +1,4 @@
-//! The partial order, by one recursion over values and slices of values.
+//! The partial order of values, arrays and objects.
 ghost use Rattle.std.specs.Prelude.{◌≡◌};
 ghost use Rattle.ijson_value.specs.Order.{tree_cmp};
 ghost use Rattle.ijson_value.specs.Values.{array_tree, object_tree, array_value, object_value};
@@ -10,7 +10,7 @@ use crate::same::same_pairs;
 use crate::value::{Destructured, IValue};
 use std::cmp::Ordering;
 
-/// Returns the order of two values, if they are ordered.
+/// Returns the order of `a` and `b`, or `None` if they are unordered.
 #[cycle(order)]
 fn value_cmp(a: &IValue, b: &IValue) -> Option<Ordering>
     ensures { result ≡ tree_cmp a.now.tree b.now.tree }
@@ -26,10 +26,10 @@ fn value_cmp(a: &IValue, b: &IValue) -> Option<Ordering>
     }
 }
 
-/// Returns the order of arrays of `xs` and `ys`, if they are ordered.
+/// Returns the order of arrays with the elements `xs` and `ys`, or `None` if they are unordered.
 ///
-/// Compares the elements in order, and returns the first result that is not `Some(Equal)`, even a missing order. If all elements are equal,
-/// compares the lengths.
+/// Compares the elements in order, and returns the first result that is not `Some(Equal)`. If all
+/// compared elements are `Equal`, compares the lengths.
 #[cycle(order)]
 fn items_cmp(xs: &[IValue], ys: &[IValue]) -> Option<Ordering>
     ensures { result ≡ tree_cmp (array_tree xs.now) (array_tree ys.now) }
@@ -46,7 +46,7 @@ fn items_cmp(xs: &[IValue], ys: &[IValue]) -> Option<Ordering>
     Some(xs.len().cmp(&ys.len()))
 }
 
-/// Returns `Equal` if two objects are equal, otherwise no order.
+/// Returns `Some(Equal)` if the objects are equal, otherwise `None`.
 fn pairs_cmp(a: &IObject, b: &IObject) -> Option<Ordering>
     ensures { result ≡ tree_cmp (object_tree a.now.pairs) (object_tree b.now.pairs) }
 {
@@ -57,10 +57,11 @@ fn pairs_cmp(a: &IObject, b: &IObject) -> Option<Ordering>
     }
 }
 
-/// Values of different kinds are ordered like `ValueType`.
+/// Orders values of different kinds like `ValueType`.
 ///
-/// Numbers are ordered by value, strings by their bytes, and arrays by the first elements that are not equal, then by length. Objects are
-/// `Equal` if they are equal, and otherwise unordered. Does not allocate.
+/// Numbers are ordered by value, and strings by their bytes. Arrays are ordered by the first
+/// elements that are not equal, then by length. Objects are `Equal` if they are equal, and
+/// otherwise unordered. Does not allocate.
 impl PartialOrd for IValue {
     ghost partial_cmp = { λ a b. tree_cmp a.tree b.tree };
 
@@ -73,7 +74,7 @@ impl PartialOrd for IValue {
 
 /// Orders arrays by the first elements that are not equal, then by length.
 ///
-/// If those are unordered, so are the arrays.
+/// If the first elements that are not equal are unordered, the arrays are unordered.
 impl PartialOrd for IArray {
     ghost partial_cmp = { λ a b. tree_cmp (array_tree a.items) (array_tree b.items) };
 
@@ -84,7 +85,7 @@ impl PartialOrd for IArray {
     }
 }
 
-/// Objects are `Equal` if they are equal, and otherwise unordered.
+/// Orders objects as `Equal` if they are equal. Other objects are unordered.
 impl PartialOrd for IObject {
     ghost partial_cmp = { λ a b. tree_cmp (object_tree a.pairs) (object_tree b.pairs) };
 

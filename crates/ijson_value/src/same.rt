@@ -1,4 +1,4 @@
-//! Equality, by one recursion over values, slices of values and the entries of objects.
+//! Equality of values, arrays and objects.
 ghost use Rattle.std.specs.Prelude.{◌≡◌};
 ghost use Rattle.ijson_value.specs.Values.{array_tree, object_tree};
 ghost use Rattle.ijson_value.specs.SameTest.{same};
@@ -6,7 +6,7 @@ ghost use Rattle.ijson_value.specs.SameTest.{same};
 use crate::object::IObject;
 use crate::value::{Destructured, IValue};
 
-/// Returns `true` if two values are equal.
+/// Returns `true` if `a` and `b` are equal.
 #[cycle(same)]
 pub(crate) fn same_value(a: &IValue, b: &IValue) -> bool
     ensures { result ≡ same a.now.tree b.now.tree }
@@ -22,7 +22,7 @@ pub(crate) fn same_value(a: &IValue, b: &IValue) -> bool
     }
 }
 
-/// Returns `true` if two arrays of these elements are equal.
+/// Returns `true` if the slices have the same length and equal elements at each index.
 #[cycle(same)]
 pub(crate) fn same_items(xs: &[IValue], ys: &[IValue]) -> bool
     ensures { result ≡ same (array_tree xs.now) (array_tree ys.now) }
@@ -38,7 +38,7 @@ pub(crate) fn same_items(xs: &[IValue], ys: &[IValue]) -> bool
     true
 }
 
-/// Returns `true` if two objects have the same length and each key has equal values in both.
+/// Returns `true` if the objects have the same length and each key has equal values in both.
 #[cycle(same)]
 pub(crate) fn same_pairs(a: &IObject, b: &IObject) -> bool
     ensures { result ≡ same (object_tree a.now.pairs) (object_tree b.now.pairs) }

@@ -1,4 +1,4 @@
-//! Values of the six kinds.
+//! JSON values and their kinds.
 ghost use Rattle.std.specs.Prelude.{◌≡◌, ◌↔◌, IsTrue};
 ghost use Rattle.ijson_value.specs.Kind.{kind_of};
 ghost use Rattle.ijson_value.specs.Same.{Same};
@@ -26,8 +26,9 @@ use std::mem::size_of;
 
 /// A JSON value.
 ///
-/// It takes 24 bytes; further content is stored on the heap, at one pointer. Operations on a whole value (copying, `==`, hashing, dropping)
-/// recurse once per level, so a very deeply nested value can overflow the stack.
+/// A value takes 24 bytes and has at most one pointer to content on the heap. Copying, comparing,
+/// hashing and dropping a value recurse once per nesting level, so a very deeply nested value can
+/// overflow the stack.
 #[cycle(value)]
 #[derive(Drop)]
 pub struct IValue {
@@ -38,7 +39,8 @@ const _: () = prove!(size_of::<IValue>() == 24);
 
 /// The content of a value, by kind.
 ///
-/// It moves out of a value and into one (`IValue::from` of its part) without copying.
+/// `IValue::destructure` moves the content out of a value, and `IValue::from` moves content into a
+/// value. Neither copies the content.
 #[cycle(value)]
 #[derive(Debug, Drop, PartialEq, Eq)]
 pub enum Destructured {
@@ -76,7 +78,9 @@ impl Model for IValue {
     ghost size_decreases = { λ v h. node_falls v.node };
 }
 
-/// The kinds of values, in their order. Values of different kinds are ordered like these.
+/// The kind of a value.
+///
+/// Values of different kinds are ordered like their kinds.
 #[derive(Clone, Copy, Debug, PartialEq, Eq, PartialOrd, Ord, Hash)]
 pub enum ValueType {
     /// `null`.
@@ -93,8 +97,9 @@ pub enum ValueType {
     Object,
 }
 
-// A clause cannot name a constant whose type has a model. The contracts of `default` (which returns `NULL`) and of `from` a `bool` (which
-// returns `TRUE` and `FALSE`) say what the constants are.
+// A clause cannot name a constant whose type has a model. The contract of `default`, which returns
+// `NULL`, states the value of `NULL`. The contract of `from` for `bool`, which returns `TRUE` and
+// `FALSE`, states their values.
 impl IValue {
     /// The value null.
     pub const NULL: IValue = IValue {
@@ -126,7 +131,7 @@ impl IValue {
     }
 }
 
-/// Creates null.
+/// Returns null.
 impl Default for IValue {
     ghost is_default = { λ v. v ≡ null_value };
 
@@ -135,10 +140,11 @@ impl Default for IValue {
     }
 }
 
-/// Values are equal if they mean the same.
+/// Values are equal if they are the same JSON value.
 ///
-/// Numbers are compared by value, whether written with a point or not, arrays element by element, and objects in any order of entries. It
-/// does not allocate. Each key of one object is looked up in the other, so the expected time is linear.
+/// Numbers are compared by value, with or without a decimal point, arrays element by element, and
+/// objects in any order of their entries. Does not allocate. Each key of one object is looked up in
+/// the other object, so the expected time is linear.
 impl PartialEq for IValue {
     ghost eq = { λ a b. same a.tree b.tree };
 

@@ -1,4 +1,5 @@
-//! Folds the words of an entry to one word. The words of an object contain the sum of these.
+//! Folds the words of an entry to one word. The hash of an object uses the sum of the folds of its
+//! entries.
 ghost use Rattle.std.specs.Prelude.{◌≡◌, ◌%◌, ◌^◌, fold};
 ghost use Rattle.ijson_number.specs.Words.{number_words};
 ghost use Rattle.ijson_string.specs.Words.{text_words};
@@ -14,7 +15,9 @@ use ijson_string::IString;
 use ijson_table::FixedHash;
 use std::hash::{Hash, Hasher};
 
-/// A fold of words, with the constants of `FixedHash`. As a hasher, it takes each write of eight bytes as a word.
+/// A fold of words, with the constants of `FixedHash`.
+///
+/// As a `Hasher`, it adds each write of eight bytes as one word, and ignores other writes.
 #[derive(Drop)]
 struct WordFold(u64);
 
@@ -64,7 +67,7 @@ impl Hasher for WordFold {
     }
 }
 
-/// Adds the words of a value to `state`.
+/// Adds the words of `value` to `state`.
 #[cycle(fold)]
 fn add_value(value: &IValue, state: &mut WordFold)
     ensures { state.new.0 ≡ fold fold_word state.old.0 (words value.now.tree) }
@@ -87,7 +90,7 @@ fn add_value(value: &IValue, state: &mut WordFold)
     }
 }
 
-/// Adds the words of an array of these elements to `state`.
+/// Adds the words of an array with the elements `items` to `state`.
 #[cycle(fold)]
 fn add_items(items: &[IValue], state: &mut WordFold)
     ensures { state.new.0 ≡ fold fold_word state.old.0 (words (array_tree items.now)) }
@@ -99,9 +102,11 @@ fn add_items(items: &[IValue], state: &mut WordFold)
     }
 }
 
-/// Returns the sum modulo 2^64, over the entries, of the fold of the key's and the value's words.
+/// Returns the sum of the folds of all entries, modulo `2 ^ 64`.
 ///
-/// It does not depend on the order of the entries.
+/// The fold of an entry combines the words of its key and of its value.
+///
+/// The sum does not depend on the order of the entries.
 #[cycle(fold)]
 pub(crate) fn sum_of_pairs(pairs: &[(IString, IValue)]) -> u64
     ensures { result ≡ pair_sum (pair_trees pairs.now) % 2 ^ 64 }

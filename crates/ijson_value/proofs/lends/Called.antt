@@ -1,5 +1,5 @@
--- Steps of a reference through a proof: it is passed to a callee that lends a part of it, it is reborrowed for one call and comes back, and
--- the callee's result is taken apart. Assumes `Logic`.
+-- Proof steps for a call that lends a part of a mutable reference, and for reborrowing a reference
+-- during a call. The lemmas assume `Logic`.
 use Prim.Native.Nat.{ℕ}
 use mathlib.Core.List.{List, [], ◌∷◌}
 use seplogic.Ra.Ura.{Ura}
@@ -19,14 +19,16 @@ use denote.Ref.{MutBor, MutRef, mut_vals}
 use denote.RattleType.{RattleType}
 use denote.Steps.{nothing, heard, peeks}
 
--- the result of a callee: the tokens, a part, the formula that the lender follows, and a fact
+-- The postcondition of a callee that lends a part: the tokens, the part, the formula that the
+-- lender follows, and a fact about the part.
 abbrev pub Answer : {M : Type 1} {𝓤 : Ura M} (tokens : Item 𝓤) (R : RattleType) (w : Val) {W : Type 0} (L : R.Denot → W → Fml)
     (F : R.Denot → Fml) (P : R.Denot → Type 0) → Item 𝓤
 Answer {M} {𝓤} tokens R w {W} L F P = later (some (λ (x : R.Denot). (tokens ⊛ ‵ (R.own_val x (w ∷ []))) ⊛
     some (λ (ws : W). ‵ (L x ws) ⊛ ‵ (F x) ⊛ raw (fact 𝓤 (P x)))))
 
 module _ {M : Type 1} {𝓤 : Ura M} (𝓛 : Logic 𝓤) {K : Type 0} {Γ : List (Item 𝓤)} {G : Goal 𝓤 𝓛.H} (t : K) where
-  -- a value and its token are the callee's precondition, with a fact
+  -- If `P` holds, and a value, its lifetime token and the fact `P` entail the precondition `Q` of a
+  -- callee, then a proof can continue with `Q`.
   pub asks : (κ : Lft) (q : Share) (own : Fml) (P : Type 0) (Q : SProp 𝓤) → P
       → ent 𝓤 (sep 𝓤 (mean 𝓛 ((‵ (flft κ q) ⊛ ‵ ftrue) ⊛ ‵ own ⊛ ‵ ftrue)) (mean 𝓛 (raw (fact 𝓤 P)))) Q
       → Step K 𝓛 (raw Q ∷ Γ) G (‵ own ∷ ‵ (flft κ q) ∷ Γ) G
@@ -34,6 +36,8 @@ module _ {M : Type 1} {𝓤 : Ura M} (𝓛 : Logic 𝓤) {K : Type 0} {Γ : List
       nothing t $ move t (1 ∷ 0 ∷ []) $ join t $ nothing t $ move t (2 ∷ 0 ∷ []) $ join t $ join t $
       use0 𝓛 (raw (fact 𝓤 P)) (fact_i 𝓤 P (emp 𝓤) p) $ move t (1 ∷ 0 ∷ []) $ use2 𝓛 (raw Q) enough $ s)
 
+  -- After a call with the postcondition `Answer`, a proof can continue with the part, the formula
+  -- and the tokens.
   pub answered : Soaks G → (tokens : Item 𝓤) (R : RattleType) (w : Val) {W : Type 0} (L : R.Denot → W → Fml) (F : R.Denot → Fml)
       (P : R.Denot → Type 0) {Q : SProp 𝓤} → ent 𝓤 Q (mean 𝓛 (Answer tokens R w L F P))
       → ((x : R.Denot) → P x → Is R x (w ∷ []) → Seq K 𝓛 (‵ (R.own_val x (w ∷ [])) ∷ ‵ (F x) ∷ tokens ∷ Γ) G) → Seq K 𝓛 (raw Q ∷ Γ) G
@@ -42,14 +46,15 @@ module _ {M : Type 1} {𝓤 : Ura M} (𝓛 : Logic 𝓤) {K : Type 0} {Γ : List
       split t $ drop t $ split t $ move t (1 ∷ []) $ heard t _ (λ says.
       move t (2 ∷ []) $ peeks t R _ (shows 𝓛 R) x (w ∷ []) (λ seen. k x says seen))))
 
--- ---- a value that is reborrowed for a lifetime that begins, and comes back when that ends
--- what the lender keeps
+-- The assertion that the lender keeps while the reference `r` is reborrowed for the lifetime `α`
+-- under the name `δ`.
 abbrev pub Kept : (R : RattleType) (κ : Lft) (q : Share) (r : MutBor R.Denot) → ℕ → GName → Fml
 Kept R κ q r α δ = LentAgain R κ (α ∷ []) q r.ghost_name r.ref_ptr.0 r.ref_ptr.1 δ r.now
 
 module _ {M : Type 1} {𝓤 : Ura M} (𝓛 : Logic 𝓤) {K : Type 0} {Γ : List (Item 𝓤)} {G : Goal 𝓤 𝓛.H} (t : K) (soaks : Soaks G) (R : RattleType)
     (κ : Lft) (q : Share) (r : MutBor R.Denot) where
-  -- the loan, what the lender keeps, and the token of the lifetime
+  -- Reborrowing `r` for a new lifetime `α` splits the reference and its token into the loan, the
+  -- assertion `Kept`, and the token of `α`.
   pub lent : ((α : ℕ) (δ : GName) → Seq K 𝓛 (‵ ((MutRef (named 0) (α ∷ []) R).own_val (record r { ghost_name = δ }) (mut_vals r))
       ∷ ‵ (Kept R κ q r α δ) ∷ ‵ (flft (α ∷ []) full_share) ∷ Γ) G)
       → Seq K 𝓛 (‵ ((MutRef (named 0) κ R).own_val r (mut_vals r)) ∷ ‵ (flft κ q) ∷ Γ) G
@@ -59,7 +64,8 @@ module _ {M : Type 1} {𝓤 : Ura M} (𝓛 : Logic 𝓤) {K : Type 0} {Γ : List
       (lends_again 𝓛 R (named 0) κ (α ∷ []) q r.ghost_name r.ref_ptr.0 r.ref_ptr.1 (named 0) r.now) $
       await t soaks $ pick t (λ δ. split t $ k α δ))
 
-  -- the lender's value, as the loan left it, and its token
+  -- When the lifetime `α` has ended, the lender has its reference and its token back, at the last
+  -- value `n` of the loan.
   pub back : (α : ℕ) (δ : GName) (n : R.Denot)
       → Step K 𝓛 (‵ ((MutRef (named 0) κ R).own_val (record r { now = n }) (mut_vals r)) ∷ ‵ (flft κ q) ∷ Γ) G
       (‵ (fdead (α ∷ [])) ∷ ‵ (Kept R κ q r α δ) ∷ ‵ (fres δ (R.coded.code n)) ∷ Γ) G

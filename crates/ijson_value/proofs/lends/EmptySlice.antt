@@ -1,5 +1,5 @@
--- Any lender can lend an empty slice: it covers none of the lender's memory, so the lender is unchanged, whatever is written. Assumes
--- `Logic`.
+-- Any lender can lend an empty slice. The slice covers no memory of the lender, so the lender is
+-- unchanged. The lemmas assume `Logic`.
 use Prim.Native.Nat.{ℕ}
 use mathlib.Core.Path.{◌≡◌}
 use mathlib.Core.List.{List, [], ◌∷◌}
@@ -24,14 +24,17 @@ module _ {M : Type 1} {𝓤 : Ura M} (𝓛 : Logic 𝓤) (S R : RattleType) (ℓ
     (x : S.Denot) where
   open 𝓛 use {H, A}
 
+  -- Taking back an empty slice leaves the lender at its value `x`.
   pub stays : (ws : List R.Denot) → length ws ≡ length {A = R.Denot} []
       → ent 𝓤 (sep 𝓤 (sem 𝓛 (cells (mem R) ws b' o')) (sem 𝓛 ((mem S).own_at x b o))) (sem 𝓛 ((mem S).own_at x b o))
   stays ws e = qed 𝓛 (‵ (cells (mem R) ws b' o') ∷ ‵ ((mem S).own_at x b o) ∷ []) ∵ drop ! $ done !
 
-  -- the slice at (b', o') under a new name, the token, and that the lender is unchanged
+  -- The assertion of the loan: the empty slice at `(b', o')` under a new name, the token, and the
+  -- fact that the lender is unchanged.
   abbrev pub Nothing : Room R 0 → GName → SProp 𝓤
   Nothing rm = Elements 𝓛 S R (λ _. x) ℓ κ q b o b' o' γ [] rm (sem 𝓛 ((mem S).own_at x b o)) stays
 
+  -- A mutable reference and its token can lend an empty slice.
   pub lends_nothing : (rm : Room R 0) (vs : List Val)
       → ent 𝓤 (sep 𝓤 (sem 𝓛 ((MutRef ℓ κ S).own_val (record { ref_ptr = (b, o); ghost_name = γ; now = x }) vs)) (A.lft κ q))
       (H.⇛ (ex 𝓤 (Nothing rm)))

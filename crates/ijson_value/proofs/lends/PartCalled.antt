@@ -1,4 +1,5 @@
--- The call that lends the part of a value, for any kind. Assumes `Logic`.
+-- A lemma that covers each call of `destructure_mut` that lends the part of a value. The lemma
+-- assumes `Logic`.
 use Prim.Native.Nat.{ℕ}
 use mathlib.Core.List.{List, [], ◌∷◌}
 use mathlib.Core.Path.{◌≡◌}
@@ -30,13 +31,14 @@ use Rattle.ijson_value.specs.declared.value.destructure.DestructuredMut.{Destruc
 use Rattle.ijson_value.proofs.value.destructure.DestructuredMut.TheLaws.{the_row_laws as parts_laws}
 use Rattle.ijson_value.proofs.lends.Called.{Answer, asks, answered}
 
+-- The lifetime `κ` with its name in the code of the function.
 abbrev at : Lft → NamedLft
 at κ = record { mir = named 0; lft = κ }
 
 module _ {M : Type 1} {𝓤 : Ura M} (𝓛 : Logic 𝓤) {K : Type 0} {Γ : List (Item 𝓤)} {E : Env 𝓤 𝓛.H} {C : Calls 𝓤 𝓛.H} {Λ : Loops 𝓤 𝓛.H}
     {f : Callee} {xs : List Operand} {d : Place} {rest : Body} {post : Post 𝓤 𝓛.H} (t : K) (κ : Lft) (q : Share) (r : MutBor V.Denot) where
-  -- after a call that requires kind `k`, of a value of that kind, the rest may use the part as a variant of `DestructuredMut`,
-  -- `LendsParts` and the lifetime token
+  -- After a call for a value of kind `k`, the following code can use the part as a variant of
+  -- `DestructuredMut`, the formula `LendsParts`, and the lifetime token.
   pub part_called : FmC 𝓤 𝓛.H 𝓛.laws C → (k : ValueType) → kind_of r.now.tree ≡ k → (R : RattleType)
       → ((part : R.Denot) (vs : List Val) → Is R part vs → Typed R.mir vs) → (variant : R.Denot → DestructuredMut) (n : ℕ)
       → ((part : R.Denot) (w : Val) → ent 𝓤 (sem 𝓛 (R.own_val part (w ∷ []))) (sem 𝓛 ((PartsOf (at κ)).own_val (variant part) (live n (of_list (w ∷ [])) ∷ []))))

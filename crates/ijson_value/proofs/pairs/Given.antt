@@ -1,4 +1,4 @@
--- The entries that an object yields, when they are put into another one.
+-- Lemmas for `overlay`, which puts the entries that one object yields into another object.
 use Rattle.std.proofs.Common.{◌≡◌, ℕ, List, ◌∷◌, length, take, Result, Ok, Err, Some, refl, sym, subst, ◌∙◌}
 use Rattle.std.specs.Prelude.{OnOk, IfErr, MatchResult, slice_get}
 use Rattle.std.specs.Iterator.{YieldsFirst}
@@ -7,31 +7,35 @@ use Rattle.ijson_value.proofs.FromMaps.{all_given, then_given}
 use Rattle.ijson_value.proofs.pairs.PutInTurn.{first_left}
 
 module _ {X : Type 0} (all : List X) where
+  -- Holds if the iterator `it` runs over the list `xs`.
   abbrev starts : List X → List X → Type 0
   starts xs it = it ≡ xs
 
-  -- the source yields its entries
+  -- A source with the entries `all` can yield only the list `all`.
   pub gives_list : GivesList starts (YieldsFirst (λ (s : List X). s)) all all
   gives_list xs gives = sym (all_given gives.0 xs gives.2) ∙ gives.1
 
-  -- a property of each list that it may yield is a property of all its entries
+  -- If a successful result `r` implies `P` for each list that the source can yield, then it implies
+  -- `P` for `all`.
   pub list_put : {A E : Type 0} (r : Result A E) (P : List X → Type 0)
       → ((xs : List X) → GivesList starts (YieldsFirst (λ (s : List X). s)) all xs → OnOk r (P xs)) → OnOk r (P all)
   list_put r P put = put all gives_list
 
-  -- the entries put so far: all that it yielded, or those before the one returned
+  -- Holds if `P` holds for the entries put so far. These are all entries of the source if `r` is a
+  -- success, and the entries before the entry in the error if `r` is an error.
   abbrev Put : {A E : Type 0} → Result A E → (E → X) → (E → Type 0) → (List X → Type 0) → Type 0
   Put r item F P =
       (added : List X) × P added
       × MatchResult r (λ _. GivesAll starts (YieldsFirst (λ (s : List X). s)) all added)
       (λ e. GivesThen starts (YieldsFirst (λ (s : List X). s)) all added (item e) × F e)
 
-  -- a property of those that it yielded is a property of all
+  -- If `r` is a success, then `P` holds for all entries of the source.
   pub all_put : {A E : Type 0} (r : Result A E) (item : E → X) (F : E → Type 0) (P : List X → Type 0) → Put r item F P → OnOk r (P all)
   all_put (Ok x) item F P (added, p, gives) = subst P (gives_list added gives) p
   all_put (Err e) item F P put = tt
 
-  -- a property of the entries before the one returned
+  -- If `r` is an error, and the entry in the error is at index `n` of the source, then `P` holds
+  -- for the entries before index `n`.
   pub some_put : {A E : Type 0} (r : Result A E) (item : E → X) (F : E → Type 0) (P : List X → Type 0) → Put r item F P
       → IfErr r (λ e. (n : ℕ) × (slice_get all n ≡ Some (item e)) × P (take n all) × F e)
   some_put (Ok x) item F P put = tt

@@ -1,4 +1,4 @@
--- The effect of one insertion, and of one more.
+-- Lemmas about one insertion, and about an insertion after others.
 use Rattle.std.proofs.Common.{◌≡◌, ◌++◌, ◌∷◌, [], List, ℕ, Option, Some, None, Result, Ok, Err, refl, subst}
 use Rattle.std.specs.Prelude.{OnOk}
 use Rattle.ijson_table.specs.Store.{put}
@@ -7,6 +7,7 @@ use Rattle.ijson_table.specs.Inserts.{Inserts}
 use Rattle.ijson_value.specs.InsertsEach.{InsertsEach}
 
 module _ {V : Type 0} where
+  -- A successful insertion has the effect of `put`.
   pub put_where_ok : (pairs : List (List ℕ × V)) (c : ℕ) (key : List ℕ) (value : V) (answer : Result (Option V) (RefusedPair V))
       (pairs' : List (List ℕ × V)) (c' : ℕ)
       → Inserts pairs c key value answer pairs' c' → OnOk answer (pairs' ≡ put pairs key value)
@@ -14,6 +15,8 @@ module _ {V : Type 0} where
   put_where_ok pairs c key value (Ok None) pairs' c' h = h.1
   put_where_ok pairs c key value (Err refused) pairs' c' h = tt
 
+  -- If the entries `added` are inserted and then `pair` is inserted, then the entries
+  -- `added ++ pair ∷ []` are inserted.
   pub one_more : (pairs : List (List ℕ × V)) (c : ℕ) (added : List (List ℕ × V)) (mid : List (List ℕ × V)) (d : ℕ) (pair : List ℕ × V)
       (old : Option V) (pairs' : List (List ℕ × V)) (c' : ℕ)
       → InsertsEach pairs c added mid d → Inserts mid d pair.0 pair.1 (Ok old) pairs' c'

@@ -1,4 +1,5 @@
--- Lookups after entries are put. For callers: each law joins two terms of the contracts.
+-- For callers: after entries are put, a lookup returns the value that was put for the key, or else
+-- the old value.
 use Rattle.std.specs.Prelude.{◌≡◌, ℕ, true, false, cond, List, [], ◌∷◌, Some, None}
 use Rattle.std.specs.Option.{option_or}
 use Rattle.std.specs.Str.{bytes_eq}
@@ -7,7 +8,8 @@ use Rattle.ijson_table.specs.Store.{keys_of, lookup, put, put_each, Lacks, IsDis
 use Rattle.ijson_table.proofs.pairs.KeyPositions.{same_key}
 
 module _ {V : Type 0} where
-  -- a value that was put is found for its key, and other lookups are unchanged
+  -- After `value` is put at `key`, a lookup of `key` returns `value`, and lookups of other keys are
+  -- unchanged.
   pub lookup-put : (pairs : List (List ℕ × V)) (key : List ℕ) (value : V) (k : List ℕ)
       → lookup k (put pairs key value) ≡ cond (bytes_eq k key) (Some value) (lookup k pairs)
   lookup-put [] key value k = refl
@@ -24,13 +26,15 @@ module _ {V : Type 0} where
         ]
       ]
 
-  -- a key that no entry has is not found
+  -- A lookup of a key that no entry has returns `None`.
   pub lookup-lacks : (pairs : List (List ℕ × V)) (key : List ℕ) → Lacks key (keys_of pairs) → lookup key pairs ≡ None
   lookup-lacks [] key lacks = refl
   lookup-lacks (pair ∷ pairs) key lacks =
       let past : bytes_eq key pair.0 ≡ false = grind (arith, same_key key pair.0, lacks.0) in
       grind (arith, past, lookup-lacks pairs key lacks.1)
 
+  -- If `more` lacks the key of `pair`, then looking up `k` in `more` and else in `pairs` with
+  -- `pair` put equals looking up `k` in `pair ∷ more` and else in `pairs`.
   put_first : (pairs more : List (List ℕ × V)) (pair : List ℕ × V) (k : List ℕ) → Lacks pair.0 (keys_of more)
       → option_or (lookup k more) (lookup k (put pairs pair.0 pair.1)) ≡ option_or (lookup k (pair ∷ more)) (lookup k pairs)
   put_first pairs more pair k lacks =
@@ -41,7 +45,8 @@ module _ {V : Type 0} where
         | inr away ↦ grind (arith, away, found)
       ]
 
-  -- if entries with distinct keys are put in order, they take precedence over those already there
+  -- After entries with distinct keys are put, a lookup returns the value that was put for the key,
+  -- or else the old value.
   pub lookup-put_each : (pairs more : List (List ℕ × V)) → IsDistinct (keys_of more) → (k : List ℕ)
       → lookup k (put_each pairs more) ≡ option_or (lookup k more) (lookup k pairs)
   lookup-put_each pairs [] distinct k = refl

@@ -1,4 +1,4 @@
--- The content of a node is smaller than the node's value.
+-- The content of a value is smaller than the value.
 use Rattle.std.specs.Prelude.{◌≤◌, max}
 use Rattle.std.proofs.Common.{arith}
 use Rattle.ijson_value.specs.Sizes.{value_size}

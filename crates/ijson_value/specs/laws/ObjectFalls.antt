@@ -1,4 +1,4 @@
--- The entries of an object are smaller than the object.
+-- The values of an object are smaller than the object.
 use Rattle.std.specs.Prelude.{◌≤◌, Option, Some, None}
 use Rattle.std.proofs.Common.{arith}
 use Rattle.std.specs.declared.alloc.Global.{Global}

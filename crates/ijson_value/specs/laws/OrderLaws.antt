@@ -1,5 +1,5 @@
--- The laws of the order, for any type with a well-formed tree: it is Equal exactly if `==` holds, reverses when its sides are swapped, and
--- its Less is transitive.
+-- The order is a partial order, for any type whose values have well-formed trees. The order is
+-- `Equal` exactly if `==` holds, swapping the sides reverses the order, and `Less` is transitive.
 use Rattle.std.proofs.Common.{◌≡◌, ℕ, ◌<◌, ◌≤◌, Bool, true, false, cond, ◌==◌, Option, Some, None, refl, sym, ap, subst, ◌∙◌, arith}
 use mathlib.Core.Bool.{true≢false, beq}
 use Rattle.std.specs.Bool.{Decides}
@@ -20,27 +20,30 @@ use Rattle.ijson_value.specs.WellFormed.{WellFormed, IsWellFormed, AreWellFormed
 use Rattle.ijson_value.specs.laws.Equality.{partial_equivalence}
 use Rattle.ijson_value.specs.laws.SameDecided.{decides}
 
--- objects are Equal or unordered
+-- The order of two objects: `Equal` if they are the same, otherwise `None`.
 abbrev object_answer : Bool → Option Ordering
 object_answer b = cond b (Some Equal) None
 
 abbrev with_proof : (t : Tree) → IsWellFormed t → WellFormed
 with_proof t d = record { tree = t; well_formed = d }
 
+-- The test `same` is symmetric on well-formed trees.
 equal_turned : (t u : Tree) → IsWellFormed t → IsWellFormed u → same t u ≡ same u t
 equal_turned t u d e = (partial_equivalence (λ v. v)).symm (with_proof t d) (with_proof u e)
 
+-- If `t` and `u` are the same, then `same` has the same result for both and any third tree.
 equal_alike : (t u v : Tree) → IsWellFormed t → IsWellFormed u → IsWellFormed v → same t u ≡ true
     → same t v ≡ same u v
 equal_alike t u v d e f =
     per_alike (partial_equivalence (λ v. v)) (with_proof t d) (with_proof u e) (with_proof v f)
 
--- ---- swapping the sides
+-- The order of two objects equals its reverse.
 object_turned : (b : Bool) → object_answer b ≡ option_map ordering_reverse (object_answer b)
 object_turned true = refl
 object_turned false = refl
 
 mutual
+  -- Swapping two trees reverses their order.
   cmp_turned : (t u : Tree) → IsWellFormed t → IsWellFormed u → tree_cmp t u ≡ option_map ordering_reverse (tree_cmp u t)
   cmp_turned null null d e = refl
   cmp_turned (boolean a) (boolean b) d e = ap Some (bool_cmp_total.antisymm a b)
@@ -51,6 +54,7 @@ mutual
       ap object_answer (equal_turned (object ps) (object qs) d e) ∙ object_turned (same (object qs) (object ps))
   cmp_turned _ _ d e = refl
 
+  -- Swapping two lists of elements reverses their order.
   items_turned : (ts us : Items) → AreWellFormed ts → AreWellFormed us
       → items_cmp ts us ≡ option_map ordering_reverse (items_cmp us ts)
   items_turned no_items no_items d e = refl
@@ -60,12 +64,13 @@ mutual
       (λ i. partial_ordering_then (cmp_turned t u d.0 e.0 i) (items_turned ts us d.1 e.1 i))
       ∙ some_flip (tree_cmp u t) (items_cmp us ts)
 
--- ---- Equal
+-- `is_eq o` decides whether `Some o` is `Some Equal`.
 some_equal : (o : Ordering) → Decides (is_eq o) (Some o ≡ Some Equal)
 some_equal Less = (λ e. absurd (true≢false (sym e)), λ e. ap is_eq (same_Some Less Equal e))
 some_equal Equal = (λ e. refl, λ e. refl)
 some_equal Greater = (λ e. absurd (true≢false (sym e)), λ e. ap is_eq (same_Some Greater Equal e))
 
+-- Two Booleans are equal exactly if their order is `Equal`.
 boolean_equal : (a b : Bool) → Decides (beq a b) (Some (bool_cmp a b) ≡ Some Equal)
 boolean_equal true true = some_equal Equal
 boolean_equal true false = some_equal Greater
@@ -77,6 +82,7 @@ object_equal true = (λ e. refl, λ e. refl)
 object_equal false = (λ e. absurd (true≢false (sym e)), λ e. ap is_some e)
 
 mutual
+  -- Two trees are the same exactly if their order is `Equal`.
   cmp_equal : (t u : Tree) → Decides (same t u) (tree_cmp t u ≡ Some Equal)
   cmp_equal null null = some_equal Equal
   cmp_equal (boolean a) (boolean b) = boolean_equal a b
@@ -86,6 +92,7 @@ mutual
   cmp_equal (object ps) (object qs) = object_equal (same (object ps) (object qs))
   cmp_equal t u = some_equal (nat_cmp (rank t) (rank u))
 
+  -- Two lists of elements are the same exactly if their order is `Equal`.
   items_equal : (ts us : Items) → Decides (same_each ts us) (items_cmp ts us ≡ Some Equal)
   items_equal no_items no_items = some_equal Equal
   items_equal no_items (item u us) = some_equal Less
@@ -93,7 +100,7 @@ mutual
   items_equal (item t ts) (item u us) =
       some_level (same t u) (same_each ts us) (tree_cmp t u) (items_cmp ts us) (cmp_equal t u) (items_equal ts us)
 
--- ---- equal values are ordered alike
+-- Trees that are the same have the same order to any third tree.
 mutual
   cmp_alike : (t u v : Tree) → IsWellFormed t → IsWellFormed u → IsWellFormed v → same t u ≡ true
       → tree_cmp t v ≡ tree_cmp u v
@@ -120,8 +127,7 @@ mutual
       λ i. partial_ordering_then (cmp_alike t u v d.0 e.0 f.0 (first_so (same t u) (same_each ts us) h) i)
       (items_alike ts us vs d.1 e.1 f.1 (second_so (same t u) (same_each ts us) h) i)
 
--- ---- Less is transitive
--- holds only for `Some Less`
+-- Holds exactly if the order is `Some Less`.
 abbrev IsLess : Option Ordering → Type 0
 IsLess None = ⊥
 IsLess (Some o) = MatchOrdering o (Unit {0}) ⊥ ⊥
@@ -148,7 +154,7 @@ not_below_itself n h = omega arith
 no_later : (m n : ℕ) → Some (nat_cmp m n) ≡ Some Less → m ≤ n
 no_later m n h = omega (arith, nat_lesser m n h)
 
--- a lesser value is of the same or an earlier kind
+-- If `t` is less than `u`, then the kind of `t` is the kind of `u` or an earlier kind.
 below : (t u : Tree) → tree_cmp t u ≡ Some Less → rank t ≤ rank u
 below null null h = itself 0
 below (boolean a) (boolean b) h = itself 1
@@ -158,7 +164,7 @@ below (array ts) (array us) h = itself 4
 below (object ps) (object qs) h = itself 5
 below t u h = no_later (rank t) (rank u) h
 
--- a value of an earlier kind is lesser
+-- If the kind of `t` is earlier than the kind of `u`, then `t` is less than `u`.
 earlier : (t u : Tree) → rank t < rank u → tree_cmp t u ≡ Some Less
 earlier null null h = absurd (not_below_itself 0 h)
 earlier (boolean a) (boolean b) h = absurd (not_below_itself 1 h)
@@ -168,7 +174,8 @@ earlier (array ts) (array us) h = absurd (not_below_itself 4 h)
 earlier (object ps) (object qs) h = absurd (not_below_itself 5 h)
 earlier t u h = nat_less (rank t) (rank u) h
 
--- if t is of an earlier kind than u and u is less than v, t is less than v
+-- If the kind of `t` is earlier than the kind of `u`, and `u` is less than `v`, then `t` is less
+-- than `v`.
 earlier_then : (t u v : Tree) → Some (nat_cmp (rank t) (rank u)) ≡ Some Less → tree_cmp u v ≡ Some Less → tree_cmp t v ≡ Some Less
 earlier_then t u v h g = earlier t v (omega (arith, nat_lesser (rank t) (rank u) h, below u v g))
 
@@ -176,13 +183,17 @@ not_less : (b : Bool) → object_answer b ≡ Some Less → ⊥
 not_less true e = apart (Some Equal) e
 not_less false e = apart None e
 
--- the first elements of three arrays, if p, q and s are the orders of the rests
+-- `t`, `u` and `v` are the first elements of three arrays. `p`, `q` and `s` are the orders of the
+-- remaining elements of the first and second array, the second and third, and the first and third.
 module _ (t u v : Tree) (d : IsWellFormed t) (e : IsWellFormed u) (f : IsWellFormed v) (p q s : Option Ordering) where
+  -- If `u` and `v` are `Equal`, then `t` has the same order to both.
   alike_right : tree_cmp u v ≡ Some Equal → tree_cmp t v ≡ tree_cmp t u
   alike_right b =
       cmp_turned t v d f ∙ ap (option_map ordering_reverse) (sym (cmp_alike u v t e f d ((cmp_equal u v).1 b)))
       ∙ sym (cmp_turned t u d e)
 
+  -- If `Less` is transitive for the first elements and for the remaining elements, then `Less` is
+  -- transitive for the arrays.
   chain : (tree_cmp t u ≡ Some Less → tree_cmp u v ≡ Some Less → tree_cmp t v ≡ Some Less)
       → (p ≡ Some Less → q ≡ Some Less → s ≡ Some Less) → (k m : Option Ordering)
       → tree_cmp t u ≡ k → tree_cmp u v ≡ m → partial_ordering_then k p ≡ Some Less
@@ -201,6 +212,7 @@ module _ (t u v : Tree) (d : IsWellFormed t) (e : IsWellFormed u) (f : IsWellFor
       ap (λ k. partial_ordering_then k s) (cmp_alike t u v d e f ((cmp_equal t u).1 a) ∙ b) ∙ rests h g
 
 mutual
+  -- If `t` is less than `u` and `u` is less than `v`, then `t` is less than `v`.
   cmp_less : (t u v : Tree) → IsWellFormed t → IsWellFormed u → IsWellFormed v → tree_cmp t u ≡ Some Less
       → tree_cmp u v ≡ Some Less → tree_cmp t v ≡ Some Less
   cmp_less null null v d e f h g = g
@@ -229,6 +241,7 @@ mutual
       (cmp_less t u v d.0 e.0 f.0) (items_less ts us vs d.1 e.1 f.1) (tree_cmp t u) (tree_cmp u v) refl refl h g
 
 module _ {K : Type 0} (f : K → WellFormed) where
+  -- The order is a partial order whose equality is `same`.
   pub partial_order : IsPartialOrder (λ x y. same (f x).tree (f y).tree) (λ x y. tree_cmp (f x).tree (f y).tree)
   partial_order = record {
     antisymm = λ x y. cmp_turned (f x).tree (f y).tree (f x).well_formed (f y).well_formed;

@@ -1,4 +1,4 @@
--- `same` decides `Same`, for any two trees.
+-- The test `same` returns true exactly if `Same` holds, for any two trees.
 use Rattle.std.proofs.Common.{◌≡◌, inl, inr, ◌==◌, ℕ, List, Bool, true, false, ◌&&◌, ◌||◌, refl, sym, subst}
 use Rattle.std.specs.Bool.{Decides}
 use mathlib.Core.Bool.{true≢false, beq}
@@ -18,18 +18,23 @@ no_way = (λ e. absurd (true≢false (sym e)), λ e. absurd e)
 yes : Decides true (Unit {0})
 yes = (λ e. tt, λ e. refl)
 
+-- If `a` decides `A`, and `A` and `B` imply each other, then `a` decides `B`.
 along : {A B : Type 0} (a : Bool) → Decides a A → (A → B) → (B → A) → Decides a B
 along a d f g = (λ e. f (d.0 e), λ h. d.1 (g h))
 
+-- `beq` decides whether two Booleans are equal.
 truths : (a b : Bool) → Decides (beq a b) (a ≡ b)
 truths true true = (λ e. refl, λ e. refl)
 truths true false = (λ e. absurd (true≢false (sym e)), λ e. absurd (true≢false e))
 truths false true = (λ e. absurd (true≢false (sym e)), λ e. absurd (true≢false (sym e)))
 truths false false = (λ e. refl, λ e. refl)
 
+-- Holds if a member has the key `k` and a value that satisfies `P`.
 abbrev Found : List ℕ → (Tree → Type 0) → Members → Type 0
 Found k P qs = (u : Tree) × Has k u qs × P u
 
+-- If `p` decides `P`, then `some_has` decides whether a member has the key `k` and a value that
+-- satisfies `P`.
 has_decides : (k : List ℕ) (p : Tree → Bool) (P : Tree → Type 0) → ((u : Tree) → Decides (p u) (P u))
     → (qs : Members) → Decides (some_has k p qs) (Found k P qs)
 has_decides k p P d no_members = (λ e. absurd (true≢false (sym e)), λ h. absurd h.1)
@@ -41,6 +46,7 @@ has_decides k p P d (member j v qs) =
     (λ h. elim h.1 [ inl e ↦ inl (e.0, subst P e.1 h.2) | inr m ↦ inr (h.0, m, h.2) ])
 
 mutual
+  -- `same` decides `Same`.
   pub decides : (t u : Tree) → Decides (same t u) (Same t u)
   decides null null = yes
   decides (boolean a) (boolean b) = truths a b
@@ -52,11 +58,13 @@ mutual
       (Decides-eqb (members_len ps) (members_len qs)) (decides_in ps qs)
   decides _ _ = no_way
 
+  -- `same_each` decides `SameEach`.
   pub decides_each : (ts us : Items) → Decides (same_each ts us) (SameEach ts us)
   decides_each no_items no_items = yes
   decides_each (item t ts) (item u us) = Decides-and (same t u) (same_each ts us) (decides t u) (decides_each ts us)
   decides_each _ _ = no_way
 
+  -- `same_in` decides `SameIn`.
   pub decides_in : (ps qs : Members) → Decides (same_in ps qs) (SameIn ps qs)
   decides_in no_members qs = yes
   decides_in (member k t ps) qs =

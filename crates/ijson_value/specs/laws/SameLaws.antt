@@ -12,6 +12,7 @@ use Rattle.ijson_value.specs.WellFormed.{IsWellFormed, AreWellFormed, HaveWellFo
 use Rattle.ijson_value.specs.Same.{Same, SameEach, SameIn, Has}
 
 mutual
+  -- Each tree is the same as itself.
   pub same_refl : (t : Tree) → Same t t
   same_refl null = tt
   same_refl (boolean a) = refl
@@ -24,6 +25,7 @@ mutual
   each_refl no_items = tt
   each_refl (item t ts) = (same_refl t, each_refl ts)
 
+  -- If `qs` contains all members of `ps`, then `SameIn ps qs` holds.
   in_refl : (ps qs : Members) → ((k : List ℕ) (t : Tree) → Has k t ps → Has k t qs) → SameIn ps qs
   in_refl no_members qs h = tt
   in_refl (member k t ps) qs h = (
@@ -31,7 +33,8 @@ mutual
     in_refl ps qs (λ j u m. h j u (inr m)),
   )
 
--- the partner that SameIn gives an entry of ps
+-- If `SameIn ps qs` holds, each entry of `ps` has an entry of `qs` with the same key and the same
+-- value.
 pub partner : (ps qs : Members) (k : List ℕ) (t : Tree) → Has k t ps → SameIn ps qs
     → (u : Tree) × Has k u qs × Same t u
 partner no_members qs k t h s = absurd h
@@ -42,6 +45,7 @@ partner (member j v ps) qs k t h s = elim h [
 ]
 
 mutual
+  -- `Same` is transitive.
   pub same_trans : (t u v : Tree) → Same t u → Same u v → Same t v
   same_trans null null v p q = q
   same_trans null u v p q = absurd p
@@ -73,20 +77,21 @@ mutual
       let w = partner qs rs k p.0.0 p.0.1 q in
       ((w.0, w.1, same_trans t p.0.0 w.0 p.0.2 w.2), in_trans ps qs rs p.1 q)
 
--- ---- entries with distinct keys
--- these entries without the first that has the key k
+-- The members without the first member that has the key `k`.
 abbrev pub without : List ℕ → Members → Members
 without k no_members = no_members
 without k (member j v qs) = cond (bytes_eq k j) qs (member j v (without k qs))
 
+-- Holds if a member has the key `k`.
 abbrev Key : List ℕ → Members → Type 0
 Key k qs = (u : Tree) × Has k u qs
 
+-- If the keys of `qs` lack `k`, then `qs` has no value for `k`.
 pub lacks_it : (k : List ℕ) (u : Tree) (qs : Members) → Lacks k (member_keys qs) → Has k u qs → ⊥
 lacks_it k u no_members l h = h
 lacks_it k u (member j v qs) l h = elim h [ inl e ↦ l.0 e.0 | inr m ↦ lacks_it k u qs l.1 m ]
 
--- a key has one value
+-- Members with distinct keys have at most one value for a key.
 pub one_value : (qs : Members) → IsDistinct (member_keys qs) → (k : List ℕ) (u v : Tree) → Has k u qs
     → Has k v qs → u ≡ v
 one_value no_members d k u v h i = absurd h
@@ -101,7 +106,7 @@ one_value (member j w qs) d k u v h i = elim h [
   ]
 ]
 
--- the rest after an entry is removed
+-- Removing an existing key decreases the number of members by one.
 pub without_len : (qs : Members) (k : List ℕ) (u : Tree) → Has k u qs
     → members_len qs ≡ suc (members_len (without k qs))
 without_len no_members k u h = absurd h
@@ -115,6 +120,7 @@ without_len (member j v qs) k u h = elim (bytes_eq k j)
       ])
     ] refl
 
+-- Removing `k` keeps the members with other keys.
 pub without_has : (qs : Members) (k j : List ℕ) (u : Tree) → j ≢ k → Has j u qs → Has j u (without k qs)
 without_has no_members k j u ne h = h
 without_has (member i v qs) k j u ne h = elim (bytes_eq k i)
@@ -123,12 +129,14 @@ without_has (member i v qs) k j u ne h = elim (bytes_eq k i)
       | false ↦ λ e. elim h [ inl f ↦ inl f | inr m ↦ inr (without_has qs k j u ne m) ]
     ] refl
 
+-- If `ps` lacks the key `k`, then removing `k` from `qs` keeps `SameIn ps qs`.
 pub without_in : (ps qs : Members) (k : List ℕ) → Lacks k (member_keys ps) → SameIn ps qs
     → SameIn ps (without k qs)
 without_in no_members qs k l s = tt
 without_in (member j t ps) qs k l s =
     ((s.0.0, without_has qs k j s.0.0 (λ e. l.0 (sym e)) s.0.1, s.0.2), without_in ps qs k l.1 s.1)
 
+-- A key that the members lack is still missing after a removal.
 without_lacks : (qs : Members) (k j : List ℕ) → Lacks j (member_keys qs) → Lacks j (member_keys (without k qs))
 without_lacks no_members k j l = l
 without_lacks (member i v qs) k j l = elim (bytes_eq k i)
@@ -137,6 +145,7 @@ without_lacks (member i v qs) k j l = elim (bytes_eq k i)
       | false ↦ (l.0, without_lacks qs k j l.1)
     ]
 
+-- Removing a key keeps the keys distinct.
 pub without_distinct : (qs : Members) (k : List ℕ) → IsDistinct (member_keys qs)
     → IsDistinct (member_keys (without k qs))
 without_distinct no_members k d = d
@@ -146,6 +155,7 @@ without_distinct (member i v qs) k d = elim (bytes_eq k i)
       | false ↦ (without_lacks qs k i d.0, without_distinct qs k d.1)
     ]
 
+-- Removing a key keeps the values well-formed.
 pub without_members : (qs : Members) (k : List ℕ) → HaveWellFormed qs → HaveWellFormed (without k qs)
 without_members no_members k d = d
 without_members (member i v qs) k d = elim (bytes_eq k i)
@@ -154,18 +164,21 @@ without_members (member i v qs) k d = elim (bytes_eq k i)
       | false ↦ (d.0, without_members qs k d.1)
     ]
 
+-- If all values are well-formed, the value of each key is well-formed.
 pub member_distinct : (qs : Members) → HaveWellFormed qs → (k : List ℕ) (u : Tree) → Has k u qs → IsWellFormed u
 member_distinct no_members d k u h = absurd h
 member_distinct (member i v qs) d k u h =
     elim h [ inl e ↦ subst IsWellFormed (sym e.1) d.0 | inr m ↦ member_distinct qs d.1 k u m ]
 
--- members that each have a partner in ps are the same as some of ps
+-- If each member of `qs` has a member of `ps` with the same key and the same value, then
+-- `SameIn qs ps` holds.
 pub covers : (qs ps : Members) → ((k : List ℕ) (u : Tree) → Has k u qs → (t : Tree) × Has k t ps × Same u t)
     → SameIn qs ps
 covers no_members ps h = tt
 covers (member k u qs) ps h = (h k u (inl (refl, refl)), covers qs ps (λ j v m. h j v (inr m)))
 
 mutual
+  -- `Same` is symmetric on well-formed trees.
   pub same_symm : (t u : Tree) → IsWellFormed t → IsWellFormed u → Same t u → Same u t
   same_symm null null d e p = tt
   same_symm (boolean a) (boolean b) d e p = sym p
@@ -180,7 +193,8 @@ mutual
   each_symm (item t ts) (item u us) d e p = (same_symm t u d.0 e.0 p.0, each_symm ts us d.1 e.1 p.1)
   each_symm _ _ d e p = absurd p
 
-  -- if both sides have the same length and each entry of one has a partner, so has each entry of the other
+  -- If `ps` and `qs` have the same length and `SameIn ps qs` holds, each member of `qs` has a
+  -- member of `ps` with the same key and the same value.
   back : (ps qs : Members) → IsDistinct (member_keys ps) → IsDistinct (member_keys qs)
       → HaveWellFormed ps → HaveWellFormed qs
       → members_len ps ≡ members_len qs → SameIn ps qs → (k : List ℕ) (u : Tree) → Has k u qs

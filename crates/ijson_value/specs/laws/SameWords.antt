@@ -20,13 +20,14 @@ use Rattle.ijson_value.specs.SameTest.{same}
 use Rattle.ijson_value.specs.laws.SameDecided.{decides}
 use Rattle.ijson_value.specs.laws.SameLaws.{without, without_len, without_in, without_distinct, without_members, member_distinct, lacks_it}
 
+-- The fold of the words of the key `k` and the value `t`.
 abbrev pair_fold : List ℕ → Tree → ℕ
 pair_fold k t = fold_words (text_words k ++ words t)
 
 swapped : (a b c s : ℕ) → s ≡ b + c → a + s ≡ b + (a + c)
 swapped a b c s e = omega arith
 
--- removing an entry subtracts its fold from the sum
+-- Removing a member subtracts its fold from the sum of the folds.
 sum_without : (qs : Members) (k : List ℕ) (u : Tree) → IsDistinct (member_keys qs) → Has k u qs
     → pair_sum qs ≡ pair_fold k u + pair_sum (without k qs)
 sum_without no_members k u d h = absurd h
@@ -46,6 +47,7 @@ sum_without (member j v qs) k u d h = elim (bytes_eq k j)
     ] refl
 
 mutual
+  -- Trees that are the same have the same words.
   pub same_words : (t u : Tree) → IsWellFormed t → IsWellFormed u → Same t u → words t ≡ words u
   same_words null null d e p = refl
   same_words (boolean a) (boolean b) d e p = ap (λ c. 1 ∷ cond c 1 0 ∷ []) p
@@ -56,11 +58,13 @@ mutual
       λ i. 5 ∷ p.0 i ∷ (same_sum ps qs d.0 e.0 d.1 e.1 p.0 p.1 i % 2 ^ 64) ∷ []
   same_words _ _ d e p = absurd p
 
+  -- Lists with the same elements have the same length.
   same_len : (ts us : Items) → SameEach ts us → items_len ts ≡ items_len us
   same_len no_items no_items p = refl
   same_len (item t ts) (item u us) p = ap suc (same_len ts us p.1)
   same_len _ _ p = absurd p
 
+  -- Lists with the same elements have the same words.
   same_item_words : (ts us : Items) → AreWellFormed ts → AreWellFormed us → SameEach ts us
       → item_words ts ≡ item_words us
   same_item_words no_items no_items d e p = refl
@@ -68,6 +72,7 @@ mutual
       λ i. same_words t u d.0 e.0 p.0 i ++ same_item_words ts us d.1 e.1 p.1 i
   same_item_words _ _ d e p = absurd p
 
+  -- If two objects are the same, the folds of their members have the same sum.
   same_sum : (ps qs : Members) → IsDistinct (member_keys ps) → IsDistinct (member_keys qs)
       → HaveWellFormed ps → HaveWellFormed qs → members_len ps ≡ members_len qs → SameIn ps qs
       → pair_sum ps ≡ pair_sum qs
@@ -83,7 +88,8 @@ mutual
       ap (λ ws. fold_words (text_words j ++ ws) + pair_sum ps) here
       ∙ ap (λ n. pair_fold j u + n) rest ∙ sym (sum_without qs j u dq s.0.1)
 
--- the law for any type with a well-formed tree
+-- Values that are equal by `==` feed the same words, for any type whose values have well-formed
+-- trees.
 module _ {K : Type 0} (f : K → WellFormed) where
   pub same_feed : (x y : K) → IsTrue (same (f x).tree (f y).tree)
       → flat_map fed.u64 (words (f x).tree) ≡ flat_map fed.u64 (words (f y).tree)

@@ -1,4 +1,4 @@
--- The code of the model of an array.
+-- An injective code for arrays, by which a proof distinguishes them.
 use Rattle.std.specs.Prelude.{ℕ, List}
 use Rattle.std.proofs.Common.{refl}
 use Rattle.std.specs.Coded.{Coded, code_by, coded×, coded_list, coded_ℕ}

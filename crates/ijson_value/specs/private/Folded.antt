@@ -1,4 +1,5 @@
--- A fold of words after one write to the hasher: a write of eight bytes is a word, lowest byte first; any other changes nothing.
+-- The state of a word fold after one write of bytes. Eight bytes add one word, lowest byte first. A
+-- write of any other length changes nothing.
 use Rattle.std.specs.Prelude.{ℕ, List, cond, length, ◌==◌}
 use Rattle.std.specs.Int.{w64, from_le_bytes}
 use Rattle.ijson_table.specs.Fold.{fold_word}

@@ -1,4 +1,4 @@
--- The pointer to an array's list after a mutable borrow of its elements as a slice ends.
+-- Clauses for functions that return a mutable reference to the elements of the list of an array.
 use Rattle.std.specs.Prelude.{List, Option, Some, None}
 use Rattle.std.specs.Borrow.{Lends, MutBor, Array, RattleType, Fml}
 use Rattle.std.specs.Vec.{with_items}
@@ -13,21 +13,23 @@ use Rattle.std.specs.declared.vec.Vec.{Vec}
 use Rattle.ijson_value.specs.WellFormed.{WellFormed}
 use Rattle.ijson_value.specs.contracts.value.IValue as value
 
+-- The pointer of an array to its list, or `None` if nothing is allocated.
 abbrev pub ListPlace : Type 0
 ListPlace = Option (Box (Vec WellFormed Global) Global)
 
--- the type of the pointer in the logic
+-- The type of the pointer in the logic.
 abbrev pub place_row : RattleType
 place_row = option.the_row (boxed.the_row (vec.the_row value.the_row global.the_row ghosts) global.the_row ghosts)
 
--- the list, if there is one, with these elements
+-- The pointer with `ws` as the elements of the list, or `None` if nothing is allocated.
 abbrev pub with_list_items : ListPlace → List WellFormed → ListPlace
 with_list_items None ws = None
 with_list_items (Some list) ws = Some (record list { value = with_items list.value ws })
 
+-- Holds if writing through the slice `r` sets the elements of the list at `s`.
 abbrev pub LendsListItems : MutBor ListPlace → MutBor (List WellFormed) → Fml
 LendsListItems s r = Lends place_row (Array value.the_row 0) s r (with_list_items s.now)
 
--- an empty slice: the pointer is unchanged
+-- Holds if writing through the slice `r`, which is empty, leaves the pointer `s` unchanged.
 abbrev pub LendsNoItems : MutBor ListPlace → MutBor (List WellFormed) → Fml
 LendsNoItems s r = Lends place_row (Array value.the_row 0) s r (λ _. s.now)

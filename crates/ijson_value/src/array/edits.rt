@@ -1,4 +1,4 @@
-//! Inserting and removing elements at an index.
+//! Insertion and removal of elements by index.
 ghost use Rattle.std.specs.Prelude.{◌≡◌, ◌-◌, ◌*◌, ◌<◌, ◌≤◌, [], length, take, slice_get, OnOk, OnErr, IfErr, IsOk, MatchOption};
 ghost use Rattle.std.specs.List.{insert, remove, swap_remove};
 
@@ -7,13 +7,14 @@ use crate::value::IValue;
 use std::alloc::AllocError;
 
 impl IArray {
-    /// Inserts an element at `index` and shifts all elements after it by one.
+    /// Inserts an element at `index`, shifting all elements after it to the right.
     ///
-    /// `index` must be at most `len`; at `len` the element is appended. It allocates only if there is no spare capacity.
+    /// `index` must be at most `len`. At `len`, the element is appended. Allocates only if there is
+    /// no spare capacity.
     ///
     /// # Errors
     ///
-    /// Returns the element if the allocation fails. The array and its capacity stay as they were.
+    /// Returns the element if the allocation fails. The array and its capacity are unchanged.
     ///
     /// # Cost
     ///
@@ -40,9 +41,9 @@ impl IArray {
         }
     }
 
-    /// Removes and returns the element at `index`, shifting all elements after it.
+    /// Removes and returns the element at `index`, or `None` if `index` is out of bounds.
     ///
-    /// Returns `None` if `index` is out of bounds. The capacity stays.
+    /// All elements after it shift to the left. The capacity is unchanged.
     ///
     /// # Cost
     ///
@@ -58,10 +59,10 @@ impl IArray {
         }
     }
 
-    /// Removes and returns the element at `index`, which the last element replaces.
+    /// Removes and returns the element at `index`, or `None` if `index` is out of bounds.
     ///
-    /// Returns `None` if `index` is out of bounds. It takes constant time: removing the first of `[1,2,3]` leaves `[3,2]`. The capacity
-    /// stays.
+    /// The last element replaces the removed element: removing the first element of `[1,2,3]`
+    /// leaves `[3,2]`. Takes constant time. The capacity is unchanged.
     pub fn swap_remove(&mut self, index: usize) -> Option<IValue>
         ensures item { result ≡ slice_get self.old.items index }
         ensures items { MatchOption result (self.new.items ≡ self.old.items)
@@ -74,7 +75,9 @@ impl IArray {
         }
     }
 
-    /// Removes and returns the last element, or `None` if the array is empty. The capacity stays.
+    /// Removes and returns the last element, or `None` if the array is empty.
+    ///
+    /// The capacity is unchanged.
     pub fn pop(&mut self) -> Option<IValue>
         ensures item { result ≡ slice_get self.old.items (length self.old.items - 1) }
         ensures items { self.new.items ≡ take (length self.old.items - 1) self.old.items }
@@ -85,7 +88,7 @@ impl IArray {
 
     /// Keeps the first `len` elements and drops the rest.
     ///
-    /// If the array has no more than `len`, it stays as it is. The capacity stays.
+    /// If the length is at most `len`, the array is unchanged. The capacity is always unchanged.
     pub fn truncate(&mut self, len: usize)
         ensures items { self.new.items ≡ take len self.old.items }
         ensures capacity { self.new.capacity ≡ self.old.capacity }
@@ -95,7 +98,7 @@ impl IArray {
         }
     }
 
-    /// Drops all elements. The capacity stays.
+    /// Drops all elements and keeps the capacity.
     pub fn clear(&mut self)
         ensures items { self.new.items ≡ [] }
         ensures capacity { self.new.capacity ≡ self.old.capacity }

@@ -1,4 +1,4 @@
-//! Elements of an array by index, and mutable access to them.
+//! Access to the elements of an array by index, and as a mutable slice.
 ghost use Rattle.std.specs.Prelude.{◌≡◌, ◌<◌, [], length, Some, slice_get, option_map};
 ghost use Rattle.std.specs.Borrow.{sem};
 ghost use Rattle.ijson_value.specs.LendsItem.{LendsItem, LendsItemIf};
@@ -10,7 +10,7 @@ use super::IArray;
 use crate::value::IValue;
 use std::ops::{Index, IndexMut};
 
-/// `array[0]`: the element at an index, which must be below the length.
+/// Supports `array[0]`. The index must be less than the length.
 impl Index<usize> for IArray {
     type Output = IValue;
 
@@ -23,7 +23,7 @@ impl Index<usize> for IArray {
     }
 }
 
-/// `array[0] = element`: the element at an index, which must be below the length.
+/// Supports `array[0] = element`. The index must be less than the length.
 impl IndexMut<usize> for IArray {
     fn index_mut(&mut self, index: usize) -> &mut IValue
         requires { index < length self.old.items }
@@ -35,7 +35,8 @@ impl IndexMut<usize> for IArray {
 }
 
 impl IArray {
-    /// Returns a mutable reference to the element at `index`, or `None` if it is out of bounds.
+    /// Returns a mutable reference to the element at `index`, or `None` if `index` is out of
+    /// bounds.
     pub(crate) fn get_mut(&mut self, index: usize) -> Option<&mut IValue>
         ensures* writes_back { sem 𝓛 (LendsItemIf self.entry index result) }
         ensures item { option_map (λ item. item.now) result ≡ slice_get self.old.items index }
@@ -55,7 +56,7 @@ impl IArray {
     }
 }
 
-/// Returns the elements of a list as a mutable slice, which is empty if there is no list.
+/// Returns the elements of the list as a mutable slice, which is empty if `place` is `None`.
 fn items_mut(place: &mut Option<Box<Vec<IValue>>>) -> &mut [IValue]
     ensures* writes_back { sem 𝓛 (LendsListItems place.entry result) }
     ensures items { result.now ≡ list_items place.old }
@@ -66,7 +67,7 @@ fn items_mut(place: &mut Option<Box<Vec<IValue>>>) -> &mut [IValue]
     }
 }
 
-/// Returns an empty mutable slice. `place` stays as it is.
+/// Returns an empty mutable slice, without changing `place`.
 fn no_items(place: &mut Option<Box<Vec<IValue>>>) -> &mut [IValue]
     ensures* writes_back { sem 𝓛 (LendsNoItems place.entry result) }
     ensures items { result.now ≡ [] }

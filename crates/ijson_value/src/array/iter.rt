@@ -16,7 +16,7 @@ use std::{fmt, slice, vec};
 
 /// An iterator that moves the elements out of an array.
 ///
-/// Dropping it drops the remaining elements.
+/// Dropping the iterator drops the remaining elements.
 #[derive(Drop)]
 pub struct IntoIter {
     left: vec::IntoIter<IValue>,
@@ -46,7 +46,7 @@ impl IArray {
     }
 }
 
-/// Moves the elements out, first to last, without copying them.
+/// Moves the elements out of the array, first to last, without copying them.
 impl IntoIterator for IArray {
     type Item = IValue;
 
@@ -63,7 +63,7 @@ impl IntoIterator for IArray {
     }
 }
 
-/// `for item in &array`. See `iter`.
+/// Supports `for item in &array`. See `iter`.
 impl<'a> IntoIterator for &'a IArray {
     type Item = &'a IValue;
 
@@ -76,7 +76,7 @@ impl<'a> IntoIterator for &'a IArray {
     }
 }
 
-/// `for item in &mut array`. See `as_mut_slice`.
+/// Supports `for item in &mut array`. See `as_mut_slice`.
 impl<'a> IntoIterator for &'a mut IArray {
     type Item = &'a mut IValue;
 
@@ -92,7 +92,7 @@ impl<'a> IntoIterator for &'a mut IArray {
     }
 }
 
-/// Yields each element once, first to last, then always `None`. Does not allocate.
+/// Yields each element once, first to last, and then always `None`. Does not allocate.
 impl Iterator for IntoIter {
     type Item = IValue;
 

@@ -1,4 +1,4 @@
-//! The entries of an object by index.
+//! Access to the entries of an object by index.
 ghost use Rattle.std.specs.Prelude.{◌≡◌, ◌<◌, ◌++◌, ◌∷◌, ℕ, List, [], length, get_or, slice_get, option_map, IfSome};
 ghost use Rattle.std.specs.Borrow.{sem};
 ghost use Rattle.std.specs.Map.Iter.{deref_pair};
@@ -14,9 +14,9 @@ use ijson_string::IString;
 use ijson_table::PairStore;
 
 impl IObject {
-    /// Returns the entry at an index, or `None` if it is out of bounds.
+    /// Returns the entry at `index`, or `None` if `index` is out of bounds.
     ///
-    /// It takes constant time.
+    /// Takes constant time.
     pub fn get_index(&self, index: usize) -> Option<(&IString, &IValue)>
         ensures { option_map deref_pair result ≡ slice_get self.now.pairs index }
     {
@@ -26,9 +26,9 @@ impl IObject {
         }
     }
 
-    /// Returns a mutable reference to the value at an index, or `None` if it is out of bounds.
+    /// Returns a mutable reference to the value at `index`, or `None` if `index` is out of bounds.
     ///
-    /// It takes constant time.
+    /// Takes constant time.
     pub fn value_at_mut(&mut self, index: usize) -> Option<&mut IValue>
         ensures* writes_back { sem 𝓛 (LendsValueIf self.entry index result) }
         ensures value { option_map (λ value. value.now) result
@@ -41,7 +41,7 @@ impl IObject {
         }
     }
 
-    /// Returns the index of a key.
+    /// Returns the index of `key`, or `None` if the key is missing.
     #[tactic(auto, using(ijson_table::proofs::pairs::PairsByKey::position_within))]
     pub(super) fn position(&self, key: &str) -> Option<usize>
         ensures position { result ≡ at self.now.pairs key.now }
@@ -53,7 +53,7 @@ impl IObject {
         }
     }
 
-    /// Like `position`, for a key with this hash.
+    /// Like `position`, but uses `hash`, which must be the hash of `key`.
     #[tactic(auto, using(ijson_table::proofs::pairs::PairsByKey::position_within))]
     pub(super) fn position_hashed(&self, key: &str, hash: u64) -> Option<usize>
         requires { hash ≡ fold_words key.now }
@@ -66,7 +66,7 @@ impl IObject {
         }
     }
 
-    /// Returns the entry at an index.
+    /// Returns the entry at `index`.
     pub(super) fn pair(&self, index: usize) -> (&IString, &IValue)
         requires { index < length self.now.pairs }
         ensures { slice_get self.now.pairs index ≡ Some (result.0.now, result.1.now) }
@@ -75,7 +75,7 @@ impl IObject {
         (&pair.0, &pair.1)
     }
 
-    /// Returns a mutable reference to the value at an index.
+    /// Returns a mutable reference to the value at `index`.
     pub(super) fn value_mut(&mut self, index: usize) -> &mut IValue
         requires { index < length self.old.pairs }
         ensures* writes_back { sem 𝓛 (LendsValue self.entry index result) }
@@ -84,7 +84,7 @@ impl IObject {
         self.pair_mut(index).1
     }
 
-    /// Returns the key at an index, and a mutable reference to its value.
+    /// Returns the key at `index` and a mutable reference to its value.
     pub(super) fn pair_mut(&mut self, index: usize) -> (&IString, &mut IValue)
         requires { index < length self.old.pairs }
         ensures* writes_back { sem 𝓛 (LendsValue self.entry index result.1) }
@@ -93,7 +93,9 @@ impl IObject {
         self.table.as_mut().unwrap().pair_mut(index)
     }
 
-    /// Appends an entry whose key has this hash, within the capacity.
+    /// Appends an entry, using `hash`, which must be the hash of `key`.
+    ///
+    /// The key must be missing, and there must be spare capacity.
     pub(super) fn push_hashed(&mut self, key: IString, value: IValue, hash: u64)
         requires missing { at self.old.pairs key ≡ None }
         requires hash { hash ≡ fold_words key }
@@ -104,7 +106,9 @@ impl IObject {
         self.table.as_mut().unwrap().push_hashed(key, value, hash);
     }
 
-    /// Inserts an entry whose key has this hash at an index, or appends it if the index is past the end, within the capacity.
+    /// Inserts an entry at `index`, or appends it if `index` is past the end.
+    ///
+    /// `hash` must be the hash of `key`. The key must be missing, and there must be spare capacity.
     pub(super) fn insert_new(&mut self, index: usize, key: IString, value: IValue, hash: u64)
         requires missing { at self.old.pairs key ≡ None }
         requires hash { hash ≡ fold_words key }
@@ -117,7 +121,9 @@ impl IObject {
         self.move_index(last, index.min(last));
     }
 
-    /// Moves the entry at index `from` to index `to`; those in between move by one index.
+    /// Moves the entry at index `from` to index `to`.
+    ///
+    /// The entries between the two indices shift by one.
     fn move_index(&mut self, from: usize, to: usize)
         requires from { from < length self.old.pairs }
         requires to { to < length self.old.pairs }
@@ -128,7 +134,9 @@ impl IObject {
         self.table.as_mut().unwrap().move_index(from, to);
     }
 
-    /// Replaces the key at an index by a missing one, and returns the old key.
+    /// Replaces the key at `index` by `key`, and returns the old key.
+    ///
+    /// `key` must be missing.
     pub(super) fn replace_key_at(&mut self, index: usize, key: IString) -> IString
         requires within { index < length self.old.pairs }
         requires missing { at self.old.pairs key ≡ None }
@@ -139,7 +147,9 @@ impl IObject {
         self.table.as_mut().unwrap().replace_key_at(index, key)
     }
 
-    /// Removes and returns the entry at an index, which the last entry replaces.
+    /// Removes and returns the entry at `index`.
+    ///
+    /// The last entry replaces the removed entry.
     pub(super) fn swap_out(&mut self, index: usize) -> (IString, IValue)
         requires { index < length self.old.pairs }
         ensures pair { slice_get self.old.pairs index ≡ Some result }
@@ -149,7 +159,7 @@ impl IObject {
         self.table.as_mut().unwrap().swap_out(index)
     }
 
-    /// Removes and returns the entry at an index, shifting all entries after it.
+    /// Removes and returns the entry at `index`, shifting down all entries after it.
     pub(super) fn shift_out(&mut self, index: usize) -> (IString, IValue)
         requires { index < length self.old.pairs }
         ensures pair { slice_get self.old.pairs index ≡ Some result }

@@ -13,10 +13,11 @@ impl IObject {
         self.alloc
     }
 
-    /// Creates an object of `pairs`, which have the keys of this one in the same order.
+    /// Creates an object from `pairs`, which must have the keys of `self` in the same order.
     ///
-    /// The capacity of the copy is its length, and an empty one does not allocate. No key is hashed if this object has no spare capacity;
-    /// otherwise each key is hashed once, or twice if many keys collide.
+    /// The capacity of the new object is its length. An empty object does not allocate. If `self`
+    /// has no spare capacity, no key is hashed. Otherwise each key is hashed once, or twice if many
+    /// keys collide.
     pub(crate) fn with_same_keys(
         &self,
         pairs: Vec<(IString, IValue)>,

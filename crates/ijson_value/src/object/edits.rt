@@ -1,4 +1,4 @@
-//! Inserting at an index, and replacing a key.
+//! Insertion of an entry at an index, and replacement of a key.
 ghost use Rattle.std.specs.Prelude.{◌≡◌, ◌≤◌, length, IfOk, IfErr, IsSome, None, OnOk};
 ghost use Rattle.std.specs.List.{insert};
 ghost use Rattle.ijson_table.specs.Growth.{Grown};
@@ -13,30 +13,32 @@ use ijson_string::IString;
 use ijson_table::{FixedHash, KeyHash};
 use thiserror::Error;
 
-/// The new key, which did not replace the old one, by the reason.
+/// The error of `replace_key`, with the new key.
 #[derive(Debug, Drop, Error)]
 pub enum RefusedReplacement {
-    /// The old key does not exist.
+    /// The old key is missing.
     #[error("the key to replace is missing")]
     Missing(IString),
-    /// The new key exists at another index.
+    /// Another entry has the new key.
     #[error("another entry has the new key")]
     Exists(IString),
 }
 
 impl IObject {
-    /// Inserts an entry at an index, shifting all entries from there on, and returns the old value of its key.
+    /// Inserts an entry at `index` and returns the old value of its key.
     ///
-    /// An existing key is moved to the index, or to the end if that is the length. `index` must be at most `len`.
+    /// All entries from `index` on shift up. An existing key is moved to `index`, or to the end if
+    /// `index` is the length. `index` must be at most `len`.
     ///
     /// # Errors
     ///
-    /// Returns the entry if the key does not exist and capacity for it cannot be reserved. The object stays as it was.
+    /// Returns the entry if `key` is missing and capacity cannot be reserved. The object is
+    /// unchanged.
     ///
     /// # Cost
     ///
-    /// Linear in the number of entries and in the capacity if few keys collide. A new key is hashed once; an existing one is removed first,
-    /// as by `shift_remove`, and hashed twice.
+    /// Linear in the number of entries and in the capacity if few keys collide. A missing key is
+    /// hashed once. An existing key is removed first, as by `shift_remove`, and is hashed twice.
     pub fn shift_insert(
         &mut self,
         index: usize,
@@ -72,17 +74,19 @@ impl IObject {
         }
     }
 
-    /// Replaces a key by another one at the same index, and returns the old key. The value and the capacity stay.
+    /// Replaces the key `old` by `new` and returns the old key.
     ///
-    /// Replacing a key by itself changes nothing. Does not allocate.
+    /// The index, the value and the capacity are unchanged. Replacing a key by itself changes
+    /// nothing. Does not allocate.
     ///
     /// # Errors
     ///
-    /// Returns the new key if the old one does not exist, or if another entry has the new one. The object stays as it was.
+    /// Returns `new` if `old` is missing or if another entry has the key `new`. The object is
+    /// unchanged.
     ///
     /// # Cost
     ///
-    /// It takes two lookups, and scans the collision clusters of both keys.
+    /// Two lookups, and a scan of the collision clusters of both keys.
     pub fn replace_key(&mut self, old: &str, new: IString) -> Result<IString, RefusedReplacement>
         ensures replaces { ReplacesKey self.old.pairs old.now new result self.new.pairs }
         ensures capacity { self.new.capacity ≡ self.old.capacity }

@@ -1,4 +1,4 @@
-//! A view of one key of an object: occupied by its entry, or vacant.
+//! Views of one key of an object, which are occupied or vacant.
 ghost use Rattle.std.specs.Prelude.{◌≡◌, ◌<◌, ℕ, List, length, Some, None, IfOk, IfErr};
 ghost use Rattle.std.specs.Borrow.{sem};
 ghost use Rattle.ijson_table.specs.Fold.{fold_words};
@@ -13,7 +13,7 @@ use thiserror::Error;
 
 /// A view of one key of an object, occupied or vacant.
 ///
-/// An occupied entry keeps the index that the lookup found, a vacant one the hash of its key.
+/// An occupied entry stores the index of its key. A vacant entry stores the hash of its key.
 ///
 /// ```
 /// let count = object.entry(key)?.or_insert(IValue::from(0u64)); // the value of the key, or 0
@@ -22,11 +22,11 @@ use thiserror::Error;
 pub enum Entry<'a> {
     /// The key exists.
     Occupied(OccupiedEntry<'a>),
-    /// The key does not exist, and there is capacity for it.
+    /// The key is missing, and capacity for it is reserved.
     Vacant(VacantEntry<'a>),
 }
 
-/// A view of a key that exists.
+/// A view of an existing key.
 #[derive(Drop)]
 pub struct OccupiedEntry<'a> {
     object: &'a mut IObject,
@@ -34,7 +34,7 @@ pub struct OccupiedEntry<'a> {
     ghost valid: { index < length object.now.pairs },
 }
 
-/// A key type that has bytes.
+/// A key type that denotes a string of bytes.
 pub trait Text {
     /// The bytes of the key.
     ghost text: { Self → List ℕ };
@@ -44,9 +44,10 @@ impl Text for IString {
     ghost text = { λ key. key };
 }
 
-/// A view of a key that does not exist.
+/// A view of a missing key, with capacity reserved for it.
 ///
-/// The key type is a parameter so that contracts can say how dropping a vacant entry leaves its object. It is always `IString`.
+/// The key type is always `IString`. It is a parameter so that the contract of `drop` can state
+/// that the object is unchanged.
 pub struct VacantEntry<'a, K: Text = IString> {
     object: &'a mut IObject,
     key: K,
@@ -70,17 +71,19 @@ impl<'a, K: Text + Drop> Drop for VacantEntry<'a, K> {
     }
 }
 
-/// The key that an object could not reserve capacity for, and why. The object is as it was.
+/// The error of `entry`: the key, and the reason why capacity could not be reserved.
+///
+/// The object is unchanged.
 #[derive(Debug, Drop, Error)]
 #[error("no capacity for the key: {why}")]
 pub struct RefusedKey {
-    /// The key given.
+    /// The key passed to `entry`.
     pub key: IString,
-    /// Why there is no capacity for `key`.
+    /// The reason why capacity could not be reserved.
     pub why: ReserveError,
 }
 
-/// Converts to the reason and drops the key.
+/// Returns the reason and drops the key.
 impl From<RefusedKey> for ReserveError {
     ghost from_gives = { λ refused why. why ≡ refused.why };
 
@@ -97,13 +100,15 @@ impl IObject {
     ghost use Rattle.ijson_value.specs.LendsEntry.{RestsIfNoEntry};
     ghost use Rattle.ijson_value.specs.WithEntry.{PutsThrough};
 
-    /// Returns a view of a key.
+    /// Returns a view of `key`.
     ///
-    /// If the key does not exist, capacity for it is reserved. Dropping a vacant entry keeps the reserved capacity.
+    /// Reserves capacity for one more entry if `key` is missing. Dropping a vacant entry keeps the
+    /// reserved capacity.
     ///
     /// # Errors
     ///
-    /// Returns the key and the reason if capacity cannot be reserved. An existing key needs none. The object stays as it was.
+    /// Returns `key` and the reason if `key` is missing and capacity cannot be reserved. The object
+    /// is unchanged.
     pub fn entry(&mut self, key: IString) -> Result<Entry<'_>, RefusedKey>
         ensures same_object { IfOk result (λ e. (entry_object e).ghost_name ≡ self.entry.ghost_name) }
         ensures found { IfOk result (FindsEntry self.old key) }
@@ -135,13 +140,14 @@ impl IObject {
         }
     }
 
-    /// Returns a view of a key, cloning `key` only if it does not exist.
+    /// Returns a view of `key`, cloning `key` only if it is missing.
     ///
-    /// The clone is made before capacity is reserved. It shares the string.
+    /// The clone shares the string. The key is cloned before capacity is reserved.
     ///
     /// # Errors
     ///
-    /// Returns `Memory` if the reference count of `key` is saturated, or the error of `reserve`. The object stays as it was.
+    /// Returns `Memory` if the reference count of `key` is saturated, or the error of `reserve`.
+    /// The object is unchanged.
     pub fn entry_or_clone(&mut self, key: &IString) -> Result<Entry<'_>, ReserveError>
         ensures same_object { IfOk result (λ e. (entry_object e).ghost_name ≡ self.entry.ghost_name) }
         ensures found { IfOk result (FindsEntry self.old key.now) }
@@ -211,7 +217,8 @@ impl<'a> Entry<'a> {
         }
     }
 
-    /// Inserts the result of `default` if the entry is vacant, and returns a reference to the value.
+    /// Inserts the result of `default` if the entry is vacant, and returns a mutable reference to
+    /// the value.
     ///
     /// `default` is not called if the entry is occupied. Does not allocate.
     pub fn or_insert_with<F: FnOnce() -> IValue>(self, default: F) -> &'a mut IValue
@@ -273,7 +280,8 @@ impl<'a> OccupiedEntry<'a> {
         self.object.value_mut(index)
     }
 
-    /// Returns a mutable reference to the value, for as long as the object is borrowed.
+    /// Converts the entry to a mutable reference to the value, which lives as long as the borrow of
+    /// the object.
     pub fn into_mut(self) -> &'a mut IValue
         ensures* writes_back { sem 𝓛 (EntryLends (Occupied self.entry) result) }
         ensures value { entry_value (Occupied self.entry) ≡ Some result.now }
@@ -283,7 +291,9 @@ impl<'a> OccupiedEntry<'a> {
         object.value_mut(index)
     }
 
-    /// Replaces the value and returns the old one. Does not allocate.
+    /// Replaces the value and returns the old value.
+    ///
+    /// Does not allocate.
     pub fn insert(&mut self, value: IValue) -> IValue
         ensures old { entry_value (Occupied self.old) ≡ Some result }
         ensures written { self.new ≡ with_entry_value self.old value }
@@ -291,7 +301,9 @@ impl<'a> OccupiedEntry<'a> {
         mem::replace(self.get_mut(), value)
     }
 
-    /// Removes the entry and returns its value. The last entry replaces it. Does not allocate.
+    /// Removes the entry and returns its value.
+    ///
+    /// The last entry of the object replaces the removed entry. Does not allocate.
     pub fn remove(self) -> IValue
         ensures value { entry_value (Occupied self.entry) ≡ Some result }
         ensures removed { self.exit.0.now.pairs ≡ swap_out_key (entry_key (Occupied self.entry))
@@ -304,7 +316,9 @@ impl<'a> OccupiedEntry<'a> {
         value
     }
 
-    /// Removes and returns the entry. The last entry replaces it. Does not allocate.
+    /// Removes and returns the entry.
+    ///
+    /// The last entry of the object replaces the removed entry. Does not allocate.
     pub fn remove_entry(self) -> (IString, IValue)
         ensures key { result.0 ≡ entry_key (Occupied self.entry) }
         ensures value { entry_value (Occupied self.entry) ≡ Some result.1 }
@@ -330,7 +344,9 @@ impl<'a> VacantEntry<'a> {
         &self.key
     }
 
-    /// Returns the key. The object keeps the reserved capacity.
+    /// Returns the key.
+    ///
+    /// The object keeps the reserved capacity.
     pub fn into_key(self) -> IString
         ensures key { result ≡ entry_key (Vacant self.entry) }
         ensures stays { self.exit.0.now ≡ (entry_object (Vacant self.entry)).now }
@@ -343,7 +359,9 @@ impl<'a> VacantEntry<'a> {
         key
     }
 
-    /// Appends the entry and returns a mutable reference to its value. Does not allocate.
+    /// Appends the entry and returns a mutable reference to its value.
+    ///
+    /// Does not allocate.
     pub fn insert(self, value: IValue) -> &'a mut IValue
         ensures* writes_back { sem 𝓛 (EntryLends (Vacant self.entry) result) }
         ensures value { result.now ≡ value }

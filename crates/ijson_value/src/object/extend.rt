@@ -1,4 +1,4 @@
-//! Adding the entries of an iterator to an object.
+//! Insertion of the entries of iterators, objects and lists.
 ghost use Rattle.std.specs.Option.{option_or};
 ghost use Rattle.std.specs.Prelude.{◌≡◌, ◌↔◌, ◌<◌, ◌≤◌, ℕ, List, [], MatchResult, IfErr, IfOk, IsOk, OnOk, Some};
 ghost use Rattle.std.specs.Prelude.{length, slice_get, take};
@@ -17,17 +17,17 @@ use ijson_table::ReserveError;
 use std::alloc::Global;
 use thiserror::Error;
 
-/// The entries of an object that was not created, and the reason.
+/// The error of `try_from_pairs`: the given entries, and the reason why the object was not created.
 #[derive(Debug, Drop, Error)]
 #[error("the object was not created: {why}")]
 pub struct RefusedPairs {
     /// The given entries, in order.
     pub pairs: Vec<(IString, IValue)>,
-    /// Why there is no capacity for `pairs`.
+    /// The reason why the object was not created.
     pub why: ReserveError,
 }
 
-/// Converts to the reason and drops the entries.
+/// Returns the reason and drops the entries.
 impl From<RefusedPairs> for ReserveError {
     ghost use Rattle.std.specs.Prelude.{◌≡◌};
 
@@ -43,11 +43,13 @@ impl From<RefusedPairs> for ReserveError {
 impl IObject {
     /// Inserts the entries of an iterator, in order.
     ///
-    /// Nothing is reserved beforehand: the capacity grows as by `insert`. The iterator must end.
+    /// The capacity grows as by `insert`; no capacity is reserved in advance. The iterator must be
+    /// finite.
     ///
     /// # Errors
     ///
-    /// Returns the entry that there is no capacity for. The entries before it stay, and the rest of the iterator is dropped.
+    /// Returns the first entry for which capacity cannot be reserved. The entries before it remain
+    /// inserted, and the rest of the iterator is dropped.
     pub fn extend<I: IntoIterator<Item = (IString, IValue)>>(
         &mut self,
         pairs: I,
@@ -72,14 +74,15 @@ impl IObject {
         Ok(())
     }
 
-    /// Inserts the entries of `other`, replacing the values of keys that exist.
+    /// Inserts the entries of `other`, replacing the values of existing keys.
     ///
-    /// An existing key keeps its index; a new one is appended, in the order of `other`. The other keys stay. The capacity grows as by
-    /// `insert`.
+    /// An existing key keeps its index. Missing keys are appended in the order of `other`. Keys
+    /// that `other` lacks are unchanged. The capacity grows as by `insert`.
     ///
     /// # Errors
     ///
-    /// Returns the entry that there is no capacity for. The entries before it are inserted, and the rest are dropped.
+    /// Returns the first entry for which capacity cannot be reserved. The entries before it remain
+    /// inserted, and the entries after it are dropped.
     pub fn overlay(&mut self, other: IObject) -> Result<(), RefusedPair>
         ensures inserts { OnOk result
             (InsertsEach self.old.pairs self.old.capacity other.pairs self.new.pairs self.new.capacity) }
@@ -96,11 +99,12 @@ impl IObject {
 
     /// Creates an object by inserting the entries of an iterator, in order.
     ///
-    /// The capacity grows as by `insert`. The iterator must end.
+    /// The capacity grows as by `insert`. The iterator must be finite.
     ///
     /// # Errors
     ///
-    /// Returns the entry that there is no capacity for. The entries before it and the rest of the iterator are dropped.
+    /// Returns the first entry for which capacity cannot be reserved. The entries before it and the
+    /// rest of the iterator are dropped.
     pub fn from_iter<I: IntoIterator<Item = (IString, IValue)>>(
         alloc: Global,
         pairs: I,
@@ -121,18 +125,22 @@ impl IObject {
         }
     }
 
-    /// Like `from_pairs`, but an error returns the entries.
+    /// Like `from_pairs`, but returns the entries if it fails.
     ///
-    /// The capacity is allocated first, and then no insertion fails. The entries are moved to the object, and their list is freed.
+    /// The capacity is allocated first, so the insertions cannot fail. The entries are moved to the
+    /// object, and their list is freed.
     ///
     /// # Errors
     ///
-    /// Returns all entries in their order, with `TooLarge` if the length exceeds 2^56, and with `Memory` if an allocation fails.
+    /// Returns all entries in their order, with `TooLarge` if there are more than `2 ^ 56`, or with
+    /// `Memory` if an allocation fails.
     ///
     /// # Cost
     ///
-    /// Each key is hashed once, and each entry is moved once. If few keys collide, it takes linear time. If many do, each is compared with
-    /// those before it; `from_pairs` sorts them. Until it returns, both lists are allocated.
+    /// Each key is hashed once, and each entry is moved once. Takes linear time if few keys
+    /// collide. If many keys collide, each key is compared with the colliding keys before it,
+    /// whereas `from_pairs` sorts them. The list and the object are both allocated until the call
+    /// returns.
     pub fn try_from_pairs(
         alloc: Global,
         pairs: Vec<(IString, IValue)>,
@@ -154,7 +162,9 @@ impl IObject {
         Ok(object)
     }
 
-    /// Inserts an entry within the capacity. The old value of its key is dropped.
+    /// Inserts an entry without allocating, and drops the old value of its key.
+    ///
+    /// There must be spare capacity.
     #[tactic(auto, using(ijson_table::proofs::pairs::PutEach::put_in_room))]
     fn insert_within(&mut self, key: IString, value: IValue)
         requires { length self.old.pairs < self.old.capacity }

@@ -1,4 +1,4 @@
-//! Objects from the entries of maps.
+//! Conversion of maps to objects.
 ghost use Rattle.std.specs.Prelude.{◌≡◌, ◌<◌, ◌↔◌, Err, IfOk, IsOk};
 ghost use Rattle.std.specs.BTreeMap.{btree_map_len};
 ghost use Rattle.std.specs.HashMap.{hash_map_len};
@@ -18,20 +18,21 @@ use std::collections::{BTreeMap, HashMap};
 use std::hash::BuildHasher;
 
 impl IObject {
-    /// Creates an object of the entries of a hash map, in the map's iteration order.
+    /// Creates an object from the entries of a hash map, in the iteration order of the map.
     ///
-    /// Its capacity is their count. They are moved, not copied, to a list that is allocated first, and the object is built from it as by
-    /// `from_pairs`. An empty map does not allocate.
+    /// The capacity of the object is the number of entries. The entries are moved to a list, and
+    /// the object is built from the list as by `from_pairs`. An empty map does not allocate.
     ///
     /// # Errors
     ///
-    /// Returns `TooLarge` if the count exceeds 2^56, before allocating, and `Memory` if an allocation fails. The map and its entries are
-    /// dropped.
+    /// Returns `TooLarge` if the map has more than `2 ^ 56` entries, before allocating, and
+    /// `Memory` if an allocation fails. The map and its entries are dropped.
     ///
     /// # Cost
     ///
-    /// Each key is hashed once, or up to three times if many keys collide. For any keys it takes at most n log n time in the count, plus
-    /// hashing the keys and comparing keys with equal hashes.
+    /// Each key is hashed once, or up to three times if many keys collide. The worst case is
+    /// `n log n` in the number of entries, plus hashing the keys and comparing keys with equal
+    /// hashes.
     pub fn from_hash_map<S: BuildHasher + Drop>(
         alloc: Global,
         map: HashMap<IString, IValue, S>,
@@ -44,9 +45,9 @@ impl IObject {
         IObject::from_distinct_pairs(alloc, map.len(), map)
     }
 
-    /// Creates an object of the entries of a sorted map, in the order of their keys.
+    /// Creates an object from the entries of a sorted map, in the order of their keys.
     ///
-    /// Allocation, errors and cost are those of `from_hash_map`.
+    /// See `from_hash_map` for allocations, errors and cost.
     pub fn from_btree_map(
         alloc: Global,
         map: BTreeMap<IString, IValue>,
@@ -59,9 +60,9 @@ impl IObject {
         IObject::from_distinct_pairs(alloc, map.len(), map)
     }
 
-    /// Creates an object of the entries of an `IndexMap`, in insertion order.
+    /// Creates an object from the entries of an `IndexMap`, in insertion order.
     ///
-    /// Allocation, errors and cost are those of `from_hash_map`.
+    /// See `from_hash_map` for allocations, errors and cost.
     pub fn from_index_map<S: BuildHasher + Drop>(
         alloc: Global,
         map: IndexMap<IString, IValue, S>,
@@ -74,9 +75,9 @@ impl IObject {
         IObject::from_distinct_pairs(alloc, map.len(), map)
     }
 
-    /// Creates an object of `count` entries with distinct keys.
+    /// Creates an object from an iterator that yields `count` entries with distinct keys.
     ///
-    /// A list of that capacity is allocated first, so no entry is rejected.
+    /// A list with capacity `count` is allocated first, so adding an entry to the list cannot fail.
     fn from_distinct_pairs<I: IntoIterator<Item = (IString, IValue)> + Drop>(
         alloc: Global,
         count: usize,

@@ -1,4 +1,4 @@
-//! The entries of an object by key.
+//! Access to the entries of an object by key.
 ghost use Rattle.std.specs.Prelude.{◌≡◌, ◌<◌, ℕ, List, Some, length, option_map, IsSome, IsTrue, IfSome, IfOk, IfErr, ◌↔◌};
 ghost use Rattle.ijson_value.specs.LendsPair.{LendsPairIf};
 ghost use Rattle.std.specs.Borrow.{sem};
@@ -16,7 +16,7 @@ use ijson_string::IString;
 use ijson_table::{FixedHash, KeyHash};
 use std::ops::{Index, IndexMut};
 
-/// Seals `ObjectIndex`: only strings are keys.
+/// Seals `ObjectIndex`, so that only strings are keys.
 pub trait Sealed {
     /// The bytes of the key.
     ghost key: { Self → List ℕ };
@@ -49,11 +49,11 @@ impl<T: Sealed> Sealed for &T {
     }
 }
 
-/// A key to look up in an object: `&str`, `&IString`, and references to these.
+/// A key to look up in an object: `&str`, `&IString`, or a reference to one of them.
 ///
-/// A lookup needs no cache and does not allocate.
+/// A lookup does not allocate and does not use the string cache.
 pub trait ObjectIndex: Sealed + Copy {
-    /// Returns the entry of the key, or `None` if it does not exist.
+    /// Returns the entry of the key, or `None` if the key is missing.
     final fn index_into<'v>(self, v: &'v IObject) -> Option<(&'v IString, &'v IValue)>
         ensures { option_map deref_pair result ≡ pair_at_key (Self.Sealed.key self) v.now.pairs }
     {
@@ -63,7 +63,7 @@ pub trait ObjectIndex: Sealed + Copy {
         }
     }
 
-    /// Like `index_into`, but with a mutable reference to the value.
+    /// Like `index_into`, but returns a mutable reference to the value.
     final fn index_into_mut<'v>(self, v: &'v mut IObject) -> Option<(&'v IString, &'v mut IValue)>
         ensures* writes_back { sem 𝓛 (LendsPairIf v.entry (Self.Sealed.key self) result) }
         ensures value { option_map deref_pair_mut result ≡ pair_at_key (Self.Sealed.key self) v.old.pairs }
@@ -71,9 +71,9 @@ pub trait ObjectIndex: Sealed + Copy {
         v.get_key_value_mut(self)
     }
 
-    /// Removes and returns the entry of the key, which the last entry replaces.
+    /// Removes and returns the entry of the key, or `None` if the key is missing.
     ///
-    /// Returns `None` if the key does not exist.
+    /// The last entry replaces the removed entry.
     final fn remove(self, v: &mut IObject) -> Option<(IString, IValue)>
         ensures pair { result ≡ pair_at_key (Self.Sealed.key self) v.old.pairs }
         ensures pairs { v.new.pairs ≡ swap_out_key (Self.Sealed.key self) v.old.pairs }
@@ -85,13 +85,13 @@ pub trait ObjectIndex: Sealed + Copy {
         }
     }
 
-    /// Removes and returns the entry of the key, shifting all entries after it.
+    /// Removes and returns the entry of the key, or `None` if the key is missing.
     ///
-    /// The order of the others stays. Returns `None` if the key does not exist.
+    /// All entries after it shift down, which keeps their order.
     ///
     /// # Cost
     ///
-    /// Linear in the capacity of the object, unless the entry is the last.
+    /// Linear in the capacity of the object, unless the removed entry is the last.
     final fn shift_remove(self, v: &mut IObject) -> Option<(IString, IValue)>
         ensures pair { result ≡ pair_at_key (Self.Sealed.key self) v.old.pairs }
         ensures pairs { v.new.pairs ≡ shift_out_key (Self.Sealed.key self) v.old.pairs }
@@ -111,9 +111,10 @@ impl ObjectIndex for &IString {}
 impl<T: ObjectIndex> ObjectIndex for &T {}
 
 impl IObject {
-    /// Returns the value of a key, or `None` if it does not exist.
+    /// Returns the value of `key`, or `None` if the key is missing.
     ///
-    /// The key is hashed once, and compared with each key on its probe whose kept part of the hash is equal.
+    /// Hashes `key` once, and compares it with each key on its probe whose stored hash bits are
+    /// equal.
     pub fn get<I: ObjectIndex>(&self, key: I) -> Option<&IValue>
         ensures { option_copied result ≡ lookup (I.Sealed.key key) self.now.pairs }
     {
@@ -123,7 +124,7 @@ impl IObject {
         }
     }
 
-    /// Returns a mutable reference to the value of a key, or `None` if it does not exist.
+    /// Returns a mutable reference to the value of `key`, or `None` if the key is missing.
     pub fn get_mut<I: ObjectIndex>(&mut self, key: I) -> Option<&mut IValue>
         ensures* writes_back { sem 𝓛 (LendsAtKeyIf self.entry (I.Sealed.key key) result) }
         ensures value { option_copied_mut result ≡ lookup (I.Sealed.key key) self.old.pairs }
@@ -134,14 +135,14 @@ impl IObject {
         }
     }
 
-    /// Returns the entry of a key, or `None` if it does not exist.
+    /// Returns the entry of `key`, or `None` if the key is missing.
     pub fn get_key_value<I: ObjectIndex>(&self, key: I) -> Option<(&IString, &IValue)>
         ensures { option_map deref_pair result ≡ pair_at_key (I.Sealed.key key) self.now.pairs }
     {
         key.index_into(self)
     }
 
-    /// Like `get_key_value`, but with a mutable reference to the value.
+    /// Like `get_key_value`, but returns a mutable reference to the value.
     pub fn get_key_value_mut<I: ObjectIndex>(&mut self, key: I) -> Option<(&IString, &mut IValue)>
         ensures* writes_back { sem 𝓛 (LendsPairIf self.entry (I.Sealed.key key) result) }
         ensures value { option_map deref_pair_mut result ≡ pair_at_key (I.Sealed.key key) self.old.pairs }
@@ -152,7 +153,7 @@ impl IObject {
         }
     }
 
-    /// Returns the index of a key. The object stays as it is.
+    /// Returns the index of `key`, without changing the object.
     fn position_of<I: ObjectIndex>(&mut self, key: I) -> Option<usize>
         ensures same { self.new ≡ self.old }
         ensures position { result ≡ at self.old.pairs (I.Sealed.key key) }
@@ -161,9 +162,9 @@ impl IObject {
         self.get_index_of(key)
     }
 
-    /// Returns the index of a key, or `None` if it does not exist.
+    /// Returns the index of `key`, or `None` if the key is missing.
     ///
-    /// The key is hashed once.
+    /// Hashes `key` once.
     pub fn get_index_of<I: ObjectIndex>(&self, key: I) -> Option<usize>
         ensures position { result ≡ at self.now.pairs (I.Sealed.key key) }
         ensures within { IfSome result (λ index. index < length self.now.pairs) }
@@ -171,16 +172,17 @@ impl IObject {
         self.position(key.as_key())
     }
 
-    /// Returns `true` if the key exists.
+    /// Returns `true` if the object has an entry with the key `key`.
     pub fn contains_key<I: ObjectIndex>(&self, key: I) -> bool
         ensures { IsTrue result ↔ IsSome (lookup (I.Sealed.key key) self.now.pairs) }
     {
         self.get(key).is_some()
     }
 
-    /// Removes the entry of a key, which the last entry replaces, and returns its value.
+    /// Removes the entry of `key` and returns its value, or `None` if the key is missing.
     ///
-    /// Returns `None` if the key does not exist. No other entry moves, and it does not allocate. `shift_remove` keeps the order.
+    /// The last entry replaces the removed entry, and no other entry moves. Does not allocate.
+    /// `shift_remove` keeps the order.
     pub fn remove<I: ObjectIndex>(&mut self, key: I) -> Option<IValue>
         ensures value { result ≡ lookup (I.Sealed.key key) self.old.pairs }
         ensures pairs { self.new.pairs ≡ swap_out_key (I.Sealed.key key) self.old.pairs }
@@ -193,9 +195,9 @@ impl IObject {
         Some(value)
     }
 
-    /// Removes and returns the entry of a key, which the last entry replaces.
+    /// Removes and returns the entry of `key`, or `None` if the key is missing.
     ///
-    /// Returns `None` if the key does not exist.
+    /// The last entry replaces the removed entry.
     pub fn remove_entry<I: ObjectIndex>(&mut self, key: I) -> Option<(IString, IValue)>
         ensures pair { result ≡ pair_at_key (I.Sealed.key key) self.old.pairs }
         ensures pairs { self.new.pairs ≡ swap_out_key (I.Sealed.key key) self.old.pairs }
@@ -204,13 +206,13 @@ impl IObject {
         key.remove(self)
     }
 
-    /// Removes the entry of a key, shifting all entries after it, and returns its value.
+    /// Removes the entry of `key` and returns its value, or `None` if the key is missing.
     ///
-    /// The order of the others stays. Returns `None` if the key does not exist.
+    /// All entries after it shift down, which keeps their order.
     ///
     /// # Cost
     ///
-    /// Linear in the capacity of the object, unless the entry is the last.
+    /// Linear in the capacity of the object, unless the removed entry is the last.
     pub fn shift_remove<I: ObjectIndex>(&mut self, key: I) -> Option<IValue>
         ensures value { result ≡ lookup (I.Sealed.key key) self.old.pairs }
         ensures pairs { self.new.pairs ≡ shift_out_key (I.Sealed.key key) self.old.pairs }
@@ -223,13 +225,13 @@ impl IObject {
         Some(value)
     }
 
-    /// Removes and returns the entry of a key, shifting all entries after it.
+    /// Removes and returns the entry of `key`, or `None` if the key is missing.
     ///
-    /// The order of the others stays. Returns `None` if the key does not exist.
+    /// All entries after it shift down, which keeps their order.
     ///
     /// # Cost
     ///
-    /// Linear in the capacity of the object, unless the entry is the last.
+    /// Linear in the capacity of the object, unless the removed entry is the last.
     pub fn shift_remove_entry<I: ObjectIndex>(&mut self, key: I) -> Option<(IString, IValue)>
         ensures pair { result ≡ pair_at_key (I.Sealed.key key) self.old.pairs }
         ensures pairs { self.new.pairs ≡ shift_out_key (I.Sealed.key key) self.old.pairs }
@@ -240,7 +242,8 @@ impl IObject {
 }
 
 impl IObject {
-    /// Returns a mutable reference to the value of a key, appending a missing key with null.
+    /// Returns a mutable reference to the value of `key`, after appending null if the key is
+    /// missing.
     ///
     /// ```
     /// *object.index_or_insert(key)? = IValue::from(1u64);
@@ -248,7 +251,8 @@ impl IObject {
     ///
     /// # Errors
     ///
-    /// Returns the key with null if there is no capacity for it.
+    /// Returns `key` with null if the key is missing and capacity cannot be reserved. The object is
+    /// unchanged.
     pub fn index_or_insert(&mut self, key: IString) -> Result<&mut IValue, RefusedPair>
         ensures* writes_back { sem 𝓛 (LendsPut self.entry key result) }
         ensures value { IfOk result (λ value. value.now ≡ unwrap_or (lookup key self.old.pairs) null_value) }
@@ -278,7 +282,7 @@ impl IObject {
     }
 }
 
-/// `object["port"]`: the value of a key, which must exist.
+/// Supports `object["port"]`. The key must exist.
 impl<I: ObjectIndex + Drop> Index<I> for IObject {
     type Output = IValue;
 
@@ -291,9 +295,9 @@ impl<I: ObjectIndex + Drop> Index<I> for IObject {
     }
 }
 
-/// `object["port"] = value`: the value of a key, which must exist.
+/// Supports `object["port"] = value`. The key must exist.
 ///
-/// `index_or_insert` adds a missing key.
+/// To add a missing key, use `index_or_insert`.
 impl<I: ObjectIndex + Drop> IndexMut<I> for IObject {
     fn index_mut(&mut self, index: I) -> &mut IValue
         requires { IsSome (lookup (I.Sealed.key index) self.old.pairs) }

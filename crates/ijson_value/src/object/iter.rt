@@ -72,7 +72,7 @@ impl<'a> Model for Values<'a> {
 
 /// An iterator that moves the entries out of an object.
 ///
-/// Dropping it drops the remaining entries.
+/// Dropping the iterator drops the remaining entries.
 #[derive(Drop)]
 pub struct IntoIter {
     left: vec::IntoIter<(IString, IValue)>,
@@ -95,7 +95,7 @@ impl Model for IntoIter {
 impl IObject {
     /// Returns an iterator over the entries. Does not allocate.
     ///
-    /// Its `len` is the number of entries left.
+    /// The `len` of the iterator is the number of remaining entries.
     pub fn iter(&self) -> Iter<'_>
         ensures { result ≡ self.now.pairs }
     {
@@ -118,7 +118,7 @@ impl IObject {
         Values { left: self.iter() }
     }
 
-    /// Returns the entries, in order, without copying them.
+    /// Converts the object to a list of its entries, in order, without copying them.
     pub fn into_pairs(self) -> Vec<(IString, IValue)>
         ensures { result.items ≡ self.pairs }
     {
@@ -129,7 +129,7 @@ impl IObject {
     }
 }
 
-/// Moves the entries out, first to last, without copying them.
+/// Moves the entries out of the object, first to last, without copying them.
 impl IntoIterator for IObject {
     type Item = (IString, IValue);
 
@@ -144,7 +144,7 @@ impl IntoIterator for IObject {
     }
 }
 
-/// `for (key, value) in &object`. See `iter`.
+/// Supports `for (key, value) in &object`. See `iter`.
 impl<'a> IntoIterator for &'a IObject {
     type Item = (&'a IString, &'a IValue);
 
@@ -157,7 +157,7 @@ impl<'a> IntoIterator for &'a IObject {
     }
 }
 
-/// Yields each entry once, first to last, then always `None`. Does not allocate.
+/// Yields each entry once, first to last, and then always `None`. Does not allocate.
 impl<'a> Iterator for Iter<'a> {
     type Item = (&'a IString, &'a IValue);
 
@@ -188,7 +188,7 @@ impl<'a> ExactSizeIterator for Iter<'a> {
     }
 }
 
-/// Yields each key once, first to last, then always `None`. Does not allocate.
+/// Yields each key once, first to last, and then always `None`. Does not allocate.
 impl<'a> Iterator for Keys<'a> {
     type Item = &'a IString;
 
@@ -219,7 +219,7 @@ impl<'a> ExactSizeIterator for Keys<'a> {
     }
 }
 
-/// Yields each value once, first to last, then always `None`. Does not allocate.
+/// Yields each value once, first to last, and then always `None`. Does not allocate.
 impl<'a> Iterator for Values<'a> {
     type Item = &'a IValue;
 
@@ -250,7 +250,7 @@ impl<'a> ExactSizeIterator for Values<'a> {
     }
 }
 
-/// Yields each entry once, first to last, then always `None`. Does not allocate.
+/// Yields each entry once, first to last, and then always `None`. Does not allocate.
 impl Iterator for IntoIter {
     type Item = (IString, IValue);
 

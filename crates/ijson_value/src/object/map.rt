@@ -16,13 +16,17 @@ use std::alloc::Global;
 use std::marker::Model;
 use std::mem::{self, size_of};
 
-/// An ordered list of entries, each a key and a value, with distinct keys that are found by hash.
+/// A hash map from strings to values that keeps its entries in order.
 ///
-/// JSON calls an entry a member. Objects are equal in any order of their entries. The hash is the same in each run, so keys chosen to have
-/// equal hashes are searched sequentially.
+/// JSON calls an entry a member. Objects are equal if they have equal entries, in any order. The
+/// hash function is fixed, so keys chosen to have equal hashes are searched sequentially.
 ///
-/// It is one pointer to a table; an object that has not allocated has none. It takes 16 bytes, plus its table and 40 bytes for each entry
-/// of its capacity. The slots of the hash index take 20 bytes more for each, but only 4 up to a capacity of 127, and none up to 8.
+/// # Memory
+///
+/// An object takes 16 bytes, including a pointer to its table, which exists after the first
+/// allocation. The table takes 40 bytes for each entry of its capacity. The slots of the hash index
+/// take 20 more bytes for each entry, but only 4 at a capacity of at most 127, and 0 at a capacity
+/// of at most 8.
 #[cycle(value)]
 #[derive(Drop)]
 pub struct IObject {
@@ -53,9 +57,10 @@ impl Model for IObject {
     ghost size_decreases = { λ o h. object_falls o.table o.alloc };
 }
 
-/// The entry that an object had no capacity for, and why it did not grow.
+/// The entry that could not be inserted, and the reason why capacity could not be reserved.
 ///
-/// This entry changed nothing. After `extend` and `overlay`, the entries before it are in the object.
+/// The entry did not change the object. After `extend` and `overlay`, the object has the entries
+/// before it.
 pub type RefusedPair = ijson_table::RefusedPair<IValue>;
 
 impl IObject {
@@ -73,7 +78,7 @@ impl IObject {
     ///
     /// # Errors
     ///
-    /// Returns `TooLarge` if `capacity` exceeds 2^56, and `Memory` if an allocation fails.
+    /// Returns `TooLarge` if `capacity` exceeds `2 ^ 56`, and `Memory` if an allocation fails.
     pub fn with_capacity(alloc: Global, capacity: usize) -> Result<IObject, ReserveError>
         ensures pairs { IfOk result (λ object. object.pairs ≡ []) }
         ensures capacity { IfOk result (λ object. object.capacity ≡ capacity) }
@@ -87,10 +92,11 @@ impl IObject {
         IObject::of_table(alloc, table)
     }
 
-    /// Creates an object of `pairs`, as if they were inserted in order.
+    /// Creates an object from `pairs`, as if they were inserted in order.
     ///
-    /// A duplicate key keeps its first index and its last value. The object takes over the list and frees its spare capacity. The capacity
-    /// of the object is `pairs.len()`, duplicates included. An empty list does not allocate; any other allocates the table.
+    /// A duplicate key keeps its first index and its last value. The object reuses the memory of
+    /// the list and frees its spare capacity. The capacity of the object is `pairs.len()`,
+    /// including duplicates. An empty list does not allocate; any other list allocates the table.
     ///
     /// ```
     /// let object = IObject::from_pairs(alloc, pairs)?; // a: 1, b: 2, a: 3 gives a: 3, b: 2
@@ -98,14 +104,18 @@ impl IObject {
     ///
     /// # Errors
     ///
-    /// Returns `TooLarge` if the length exceeds 2^56, and `Memory` if an allocation fails. The entries are dropped; `try_from_pairs` returns
-    /// them.
+    /// Returns `TooLarge` if there are more than `2 ^ 56` entries, and `Memory` if an allocation
+    /// fails. The entries are dropped; `try_from_pairs` returns them.
     ///
     /// # Cost
     ///
-    /// If few keys collide, it takes linear time and hashes each key once, the first duplicate twice. Entries before the first duplicate
-    /// are not moved; the others move down within the list. If many keys collide, each is hashed up to three times, and 16 bytes for each
-    /// entry are allocated and sorted. That takes at most n log n time, plus hashing the keys and comparing keys with equal hashes.
+    /// If few keys collide, takes linear time and hashes each key once, except that the first
+    /// duplicate is hashed twice. Entries before the first duplicate are not moved. Later entries
+    /// move down within the list.
+    ///
+    /// If many keys collide, hashes each key up to three times, and allocates and sorts 16 bytes
+    /// for each entry. The worst case is `n log n` in the number of entries, plus hashing the keys
+    /// and comparing keys with equal hashes.
     pub fn from_pairs(alloc: Global, pairs: Vec<(IString, IValue)>) -> Result<IObject, ReserveError>
         ensures pairs { IfOk result (λ object. object.pairs ≡ put_each [] pairs.items) }
         ensures capacity { IfOk result (λ object. object.capacity ≡ length pairs.items) }
@@ -119,7 +129,7 @@ impl IObject {
         IObject::of_table(alloc, table)
     }
 
-    /// Creates an object stored in this table.
+    /// Creates an object from `table`, which is moved to the heap.
     fn of_table(alloc: Global, table: FixedTable<IValue>) -> Result<IObject, ReserveError>
         ensures { MatchResult result
             (λ object. (object.pairs ≡ table.store.pairs) × (object.capacity ≡ table.store.capacity))
@@ -151,7 +161,9 @@ impl IObject {
         self.len() == 0
     }
 
-    /// Returns the number of entries that fit without reallocating, at most 2^56.
+    /// Returns the number of entries that the object can hold without reallocating.
+    ///
+    /// The capacity is at most `2 ^ 56`.
     pub fn capacity(&self) -> usize
         ensures capacity { result ≡ self.now.capacity }
         ensures room { length self.now.pairs ≤ self.now.capacity }
@@ -165,13 +177,15 @@ impl IObject {
 
     /// Reserves capacity for at least `additional` more entries.
     ///
-    /// If there is not enough, the capacity becomes the maximum of twice the old one, the new length, and 4; repeated insertions give
-    /// capacities of 4, 8, 16 and so on. Each entry is moved at most once, and each key is hashed once, or
-    /// twice if many keys collide.
+    /// If the spare capacity is too small, the capacity becomes the maximum of twice the old
+    /// capacity, the length plus `additional`, and 4. Repeated insertions give capacities of 4, 8,
+    /// 16 and so on. Each entry is moved at most once. Each key is hashed once, or twice if many
+    /// keys collide.
     ///
     /// # Errors
     ///
-    /// Returns `TooLarge` if the capacity would exceed 2^56, and `Memory` if an allocation fails. The object stays as it was.
+    /// Returns `TooLarge` if the capacity would exceed `2 ^ 56`, and `Memory` if an allocation
+    /// fails. The object is unchanged.
     pub fn reserve(&mut self, additional: usize) -> Result<(), ReserveError>
         ensures growth { Grow (length self.old.pairs) self.old.capacity additional result
             self.new.capacity }
@@ -194,11 +208,12 @@ impl IObject {
 
     /// Shrinks the capacity to the length.
     ///
-    /// Does not allocate if the capacity is the length already or the length is 0. Each entry is moved at most once.
+    /// Does not allocate if there is no spare capacity or the object is empty. Each entry is moved
+    /// at most once.
     ///
     /// # Errors
     ///
-    /// Returns `Memory` if the allocation fails. The object stays as it was.
+    /// Returns `Memory` if the allocation fails. The object is unchanged.
     pub fn shrink_to_fit(&mut self) -> Result<(), ReserveError>
         ensures capacity { Shrink (length self.old.pairs) self.old.capacity result self.new.capacity }
         ensures pairs { self.new.pairs ≡ self.old.pairs }
@@ -209,7 +224,9 @@ impl IObject {
         }
     }
 
-    /// Drops all entries. The capacity stays. It takes time linear in the capacity.
+    /// Drops all entries and keeps the capacity.
+    ///
+    /// Takes time linear in the capacity.
     pub fn clear(&mut self)
         ensures pairs { self.new.pairs ≡ [] }
         ensures capacity { self.new.capacity ≡ self.old.capacity }
@@ -219,9 +236,10 @@ impl IObject {
         }
     }
 
-    /// Inserts an entry, and returns the old value of its key.
+    /// Inserts an entry and returns the old value of its key.
     ///
-    /// An existing key keeps its index and needs no memory. A new key is appended, after reserving capacity if needed.
+    /// An existing key keeps its index, and nothing is allocated. A missing key is appended, after
+    /// reserving capacity if needed.
     ///
     /// ```
     /// let old = object.insert(key, IValue::from(1u64))?; // `None` if the key is new
@@ -229,11 +247,11 @@ impl IObject {
     ///
     /// # Errors
     ///
-    /// Returns the entry if capacity cannot be reserved.
+    /// Returns the entry if capacity cannot be reserved. The object is unchanged.
     ///
     /// # Cost
     ///
-    /// The key is hashed once. An insertion takes amortized constant time, plus the lookup.
+    /// Hashes the key once. Takes amortized constant time, plus the time of the lookup.
     #[tactic(auto, using(crate::proofs::pairs::Inserted::put_where_ok))]
     pub fn insert(&mut self, key: IString, value: IValue) -> Result<Option<IValue>, RefusedPair>
         ensures inserts { Inserts self.old.pairs self.old.capacity key value result self.new.pairs
@@ -264,7 +282,7 @@ impl IObject {
     }
 }
 
-/// Objects are equal if they have the same length and each key has an equal value in the other.
+/// Objects are equal if they have the same length and each key has equal values in both.
 ///
 /// Does not allocate.
 impl PartialEq for IObject {

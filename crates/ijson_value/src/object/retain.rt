@@ -1,4 +1,4 @@
-//! Keeping some of the entries.
+//! Removal of the entries that a closure rejects.
 ghost use Rattle.std.specs.Prelude.{◌≡◌};
 ghost use Rattle.std.specs.Map.Calls.{CalledAtPair, TakesPair};
 ghost use Rattle.ijson_value.specs.MayAsk.{MayAsk};
@@ -11,12 +11,13 @@ use ijson_string::IString;
 impl IObject {
     /// Keeps the entries for which `keep` returns `true`, with the values that `keep` writes.
     ///
-    /// Entries are visited from the first. The last entry replaces a removed one and is visited next, so the order stays only if nothing is
-    /// removed. Does not allocate.
+    /// Entries are visited from the first. The last entry replaces a removed entry and is visited
+    /// next, so a removal can change the order. Does not allocate.
     ///
     /// # Cost
     ///
-    /// Linear in the entries if few keys collide, plus the calls of the closure. Each removal scans the collision clusters of two keys.
+    /// Linear in the number of entries if few keys collide, plus the calls of `keep`. Each removal
+    /// scans the collision clusters of two keys.
     pub fn retain<F: FnMut(&IString, &mut IValue) -> bool>(&mut self, mut keep: F)
         requires { MayAsk (CalledAtPair F.FnMut) (TakesPair F.FnMut) keep self.old.pairs }
         ensures pairs { Retains (CalledAtPair F.FnMut) keep self.old.pairs self.new.pairs }

@@ -1,4 +1,4 @@
-//! Conversions into values: from their parts, Booleans, integers and options.
+//! Conversions of Booleans, numbers, strings, arrays, objects, integers and options to values.
 ghost use Rattle.std.specs.Prelude.{◌≡◌, pos, MatchOption};
 ghost use Rattle.ijson_value.specs.Integers.{IsIntegerTree};
 ghost use Rattle.ijson_value.specs.Values.{null_value, boolean_value, number_value, string_value, array_value, object_value};
@@ -9,7 +9,7 @@ use crate::object::IObject;
 use ijson_number::INumber;
 use ijson_string::IString;
 
-/// Converts a Boolean.
+/// Converts a Boolean to a value.
 impl From<bool> for IValue {
     ghost from_gives = { λ b v. v ≡ boolean_value b };
 
@@ -18,7 +18,7 @@ impl From<bool> for IValue {
     }
 }
 
-/// Converts a number.
+/// Converts a number to a value.
 impl From<INumber> for IValue {
     ghost from_gives = { λ n v. v ≡ number_value n };
 
@@ -29,7 +29,7 @@ impl From<INumber> for IValue {
     }
 }
 
-/// Converts a string.
+/// Converts a string to a value.
 impl From<IString> for IValue {
     ghost from_gives = { λ s v. v ≡ string_value s };
 
@@ -40,7 +40,7 @@ impl From<IString> for IValue {
     }
 }
 
-/// Converts an array.
+/// Converts an array to a value.
 impl From<IArray> for IValue {
     ghost from_gives = { λ a v. v ≡ array_value a.items };
 
@@ -51,7 +51,7 @@ impl From<IArray> for IValue {
     }
 }
 
-/// Converts an object.
+/// Converts an object to a value.
 impl From<IObject> for IValue {
     ghost from_gives = { λ o v. v ≡ object_value o };
 
@@ -152,7 +152,7 @@ impl From<usize> for IValue {
     }
 }
 
-/// Converts the content of `Some`, and `None` to null.
+/// Converts the content of `Some` to a value, and `None` to null.
 impl<T: Into<IValue>> From<Option<T>> for IValue {
     ghost from_gives = { λ x v. MatchOption x (v ≡ null_value) (λ y. T.Into.converts y v) };
 

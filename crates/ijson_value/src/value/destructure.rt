@@ -15,7 +15,7 @@ use crate::object::IObject;
 use ijson_number::INumber;
 use ijson_string::IString;
 
-/// The content of a value by reference. Only a Boolean is copied.
+/// The content of a value by reference, by kind. Only a Boolean is copied.
 #[derive(Clone, Copy, Debug, PartialEq, Eq)]
 pub enum DestructuredRef<'a> {
     /// `null`.
@@ -32,7 +32,7 @@ pub enum DestructuredRef<'a> {
     Object(&'a IObject),
 }
 
-/// The content of a value by mutable reference.
+/// The content of a value by mutable reference, by kind.
 #[derive(Debug, Drop)]
 pub enum DestructuredMut<'a> {
     /// `null`.
@@ -56,7 +56,7 @@ pub struct BoolMut<'a> {
 }
 
 impl IValue {
-    /// Returns the content of the value, to match on its kind. Nothing is copied.
+    /// Returns the content of the value, to match on its kind, without copying.
     ///
     /// ```
     /// match value.destructure() {
@@ -81,8 +81,8 @@ impl IValue {
 
     /// Returns the content by mutable reference, to match on its kind.
     ///
-    /// Writing changes the value but not its kind. A caller has to prove the new value by hand;
-    /// after `as_*_mut` or a `match` on `&mut **value` it needs no proof.
+    /// Writing through the result changes the content but not the kind. Callers have to prove the
+    /// new value by hand. Calling `as_*_mut` or matching on `&mut **value` avoids this proof.
     pub fn destructure_mut(&mut self) -> DestructuredMut<'_>
         ensures* writes_back { sem 𝓛 (LendsParts self.entry result) }
         ensures value { mut_value result ≡ self.old }
@@ -97,7 +97,7 @@ impl IValue {
         }
     }
 
-    /// Returns the kind. The value stays as it is.
+    /// Returns the kind, without changing the value.
     fn kind_kept(&mut self) -> ValueType
         ensures same { self.new ≡ self.old }
         ensures kind { result ≡ kind_of self.old.tree }
@@ -105,7 +105,7 @@ impl IValue {
         self.type_()
     }
 
-    /// Returns a reference to the Boolean of the value.
+    /// Returns a mutable reference to the Boolean. The value must be a Boolean.
     fn bool_part(&mut self) -> BoolMut<'_>
         requires { kind_of self.old.tree ≡ kind.Bool }
         ensures* writes_back { sem 𝓛 (LendsBoolPart self.entry result.place) }
@@ -116,7 +116,7 @@ impl IValue {
         }
     }
 
-    /// Returns a mutable reference to the number of the value.
+    /// Returns a mutable reference to the number. The value must be a number.
     fn number_part(&mut self) -> &mut INumber
         requires { kind_of self.old.tree ≡ kind.Number }
         ensures* writes_back { sem 𝓛 (LendsNumberPart self.entry result) }
@@ -125,7 +125,7 @@ impl IValue {
         self.as_number_mut().unwrap()
     }
 
-    /// Returns a mutable reference to the string of the value.
+    /// Returns a mutable reference to the string. The value must be a string.
     fn string_part(&mut self) -> &mut IString
         requires { kind_of self.old.tree ≡ kind.String }
         ensures* writes_back { sem 𝓛 (LendsStringPart self.entry result) }
@@ -134,7 +134,7 @@ impl IValue {
         self.as_string_mut().unwrap()
     }
 
-    /// Returns a mutable reference to the array of the value.
+    /// Returns a mutable reference to the array. The value must be an array.
     fn array_part(&mut self) -> &mut IArray
         requires { kind_of self.old.tree ≡ kind.Array }
         ensures* writes_back { sem 𝓛 (LendsArrayPart self.entry result) }
@@ -143,7 +143,7 @@ impl IValue {
         self.as_array_mut().unwrap()
     }
 
-    /// Returns a mutable reference to the object of the value.
+    /// Returns a mutable reference to the object. The value must be an object.
     fn object_part(&mut self) -> &mut IObject
         requires { kind_of self.old.tree ≡ kind.Object }
         ensures* writes_back { sem 𝓛 (LendsObjectPart self.entry result) }
@@ -154,7 +154,7 @@ impl IValue {
 }
 
 impl Destructured {
-    /// Returns the content by reference.
+    /// Returns the content by reference, to match on its kind.
     pub fn as_ref(&self) -> DestructuredRef<'_>
         ensures { ref_value result ≡ node_value self.now }
     {

@@ -1,4 +1,4 @@
-//! Values inside a value, by index or by key.
+//! Access to the values inside a value, by index or by key.
 ghost use Rattle.std.specs.Prelude.{◌≡◌, Some, option_map, unwrap_or, IsSome, IfOk, IfErr};
 ghost use Rattle.std.specs.Borrow.{sem};
 ghost use Rattle.ijson_value.specs.FindsEntry.{FindsNoRoom};
@@ -16,7 +16,7 @@ use crate::object::RefusedPair;
 use ijson_string::IString;
 use std::ops::{Deref, DerefMut, Index, IndexMut};
 
-/// Derefs to the content, whose methods return references to values inside it.
+/// Derefs to the content, which has methods to access the values inside.
 impl Deref for IValue {
     type Target = Destructured;
 
@@ -27,7 +27,7 @@ impl Deref for IValue {
     }
 }
 
-/// Derefs to a mutable reference to the content. Assigning other content changes the value.
+/// Derefs to the content by mutable reference. Assigning new content changes the value.
 impl DerefMut for IValue {
     ghost deref_mut_gives = { λ value opened. node_value opened ≡ value };
 
@@ -39,9 +39,9 @@ impl DerefMut for IValue {
     }
 }
 
-/// Seals `ValueIndex`: only indices and strings find values.
+/// Seals `ValueIndex`, so that only integers and strings are indices.
 pub trait Sealed: Copy {
-    /// The step it denotes.
+    /// The step that the index denotes.
     ghost step: { Self → Step };
 
     fn find_in<'v>(self, v: &'v Destructured) -> Option<&'v IValue>
@@ -50,9 +50,10 @@ pub trait Sealed: Copy {
             ≡ tree_at (node_value v.now).tree (step self) };
 }
 
-/// An index of an array or a key of an object: `usize`, `&str`, `&IString`, and references to these.
+/// An index of an array or a key of an object: `usize`, `&str`, `&IString`, or a reference to one
+/// of them.
 pub trait ValueIndex: Sealed {
-    /// Returns the value at the index or key, or `None` if it does not exist.
+    /// Returns the value at the index or key, or `None` if no value exists there.
     ///
     /// `v` must be an array for an index and an object for a key.
     final fn index_into<'v>(self, v: &'v IValue) -> Option<&'v IValue>
@@ -65,8 +66,8 @@ pub trait ValueIndex: Sealed {
 
     /// Like `index_into`, but returns a mutable reference.
     ///
-    /// Writing changes that one value. A caller can prove this only by hand; `value.get_mut(index)` returns the same reference and needs no
-    /// proof.
+    /// Writing through the result changes only the value at the index or key. Callers have to prove
+    /// this by hand. `value.get_mut(index)` returns the same reference and avoids this proof.
     final fn index_into_mut<'v>(self, v: &'v mut IValue) -> Option<&'v mut IValue>
         requires { kind_of v.old.tree ≡ kind_for (Self.Sealed.step self) }
         ensures* writes_back { sem 𝓛 (LendsInsideIf v.entry (Self.Sealed.step self) result) }
@@ -76,17 +77,18 @@ pub trait ValueIndex: Sealed {
         IValue::get_mut(v.deref_mut(), self)
     }
 
-    /// Like `index_into_mut`, on the content of a value.
+    /// Like `index_into_mut`, but on the content of a value.
     fn index_opened_mut<'v>(v: &'v mut Destructured, index: Self) -> Option<&'v mut IValue>
         requires { kind_of (node_value v.old).tree ≡ kind_for (Self.Sealed.step index) }
         ensures* writes_back { sem 𝓛 (LendsStepIf v.entry (Self.Sealed.step index) result) }
         ensures value { option_map (λ found. found.now.tree) result
             ≡ tree_at (node_value v.old).tree (Self.Sealed.step index) };
 
-    /// Removes and returns the value at the index or key, or `None` if it does not exist.
+    /// Removes and returns the value at the index or key, or `None` if no value exists there.
     ///
-    /// Elements after it are shifted; the last entry of an object replaces the removed one. `v` must be an array for an index and an object
-    /// for a key.
+    /// `v` must be an array for an index and an object for a key. All elements of an array after
+    /// the removed element shift to the left. The last entry of an object replaces the removed
+    /// entry.
     fn remove(self, v: &mut IValue) -> Option<IValue>
         requires { kind_of v.old.tree ≡ kind_for (Self.Sealed.step self) }
         ensures value { option_map (λ found. found.tree) result
@@ -173,7 +175,7 @@ impl<T: Sealed> Sealed for &T {
     }
 }
 
-/// Indexes like the referent.
+/// Looks up a value like the referenced index.
 impl<T: ValueIndex> ValueIndex for &T {
     fn index_opened_mut<'v>(v: &'v mut Destructured, index: &T) -> Option<&'v mut IValue> {
         T::index_opened_mut(v, *index)
@@ -185,9 +187,10 @@ impl<T: ValueIndex> ValueIndex for &T {
 }
 
 impl IValue {
-    /// Returns the value at an index or key, or `None` if it does not exist.
+    /// Returns the value at an index or key, or `None` if no value exists there.
     ///
-    /// The value must be an array for an index and an object for a key. An index takes constant time, a key one hash lookup.
+    /// The value must be an array for an index and an object for a key. An index takes constant
+    /// time, and a key takes one hash lookup.
     ///
     /// ```
     /// let port = value.get("port"); // of an object
@@ -201,10 +204,11 @@ impl IValue {
         index.index_into(self)
     }
 
-    /// Removes and returns the value at an index or key, or `None` if it does not exist.
+    /// Removes and returns the value at an index or key, or `None` if no value exists there.
     ///
-    /// The value must be an array for an index and an object for a key. Elements after the index are shifted; the last entry of an object
-    /// replaces the removed one.
+    /// The value must be an array for an index and an object for a key. All elements of an array
+    /// after the removed element shift to the left. The last entry of an object replaces the
+    /// removed entry.
     pub fn remove<I: ValueIndex>(&mut self, index: I) -> Option<IValue>
         requires { kind_of self.old.tree ≡ kind_for (I.Sealed.step index) }
         ensures value { option_map (λ found. found.tree) result
@@ -216,9 +220,9 @@ impl IValue {
 }
 
 impl IValue {
-    /// Returns `opened.get_mut(index)`, so that `IValue::get_mut(&mut value, index)` is `value.get_mut(index)`.
+    /// Returns `opened.get_mut(index)`, for calls written as `IValue::get_mut(&mut value, index)`.
     ///
-    /// The argument `&mut value` derefs to `&mut Destructured`, which has the method.
+    /// In such a call, `&mut value` derefs to `&mut Destructured`, which has the method `get_mut`.
     pub fn get_mut<I: ValueIndex>(opened: &mut Destructured, index: I) -> Option<&mut IValue>
         requires { kind_of (node_value opened.old).tree ≡ kind_for (I.Sealed.step index) }
         ensures* writes_back { sem 𝓛 (LendsStepIf opened.entry (I.Sealed.step index) result) }
@@ -228,7 +232,8 @@ impl IValue {
         I::index_opened_mut(opened, index)
     }
 
-    /// Returns `opened.index_or_insert(key)`, for calls as `IValue::index_or_insert(&mut value, key)`.
+    /// Returns `opened.index_or_insert(key)`, for calls written as
+    /// `IValue::index_or_insert(&mut value, key)`.
     pub fn index_or_insert(
         opened: &mut Destructured,
         key: IString,
@@ -245,10 +250,11 @@ impl IValue {
 }
 
 impl Destructured {
-    /// Returns a mutable reference to the value at an index or key, or `None` if it does not exist.
+    /// Returns a mutable reference to the value at an index or key, or `None` if no value exists
+    /// there.
     ///
-    /// Call it on a value, which derefs to its content: `value.get_mut("port")`. The value must be an array for an index and an object for
-    /// a key.
+    /// Call this method on a value, which derefs to its content: `value.get_mut("port")`. The value
+    /// must be an array for an index and an object for a key.
     pub fn get_mut<I: ValueIndex>(&mut self, index: I) -> Option<&mut IValue>
         requires { kind_of (node_value self.old).tree ≡ kind_for (I.Sealed.step index) }
         ensures* writes_back { sem 𝓛 (LendsStepIf self.entry (I.Sealed.step index) result) }
@@ -258,13 +264,15 @@ impl Destructured {
         I::index_opened_mut(self, index)
     }
 
-    /// Returns a mutable reference to the value of a key, appending a missing key with null.
+    /// Returns a mutable reference to the value of `key`, after appending null if the key is
+    /// missing.
     ///
     /// The value must be an object.
     ///
     /// # Errors
     ///
-    /// Returns the key with null if there is no capacity for it.
+    /// Returns `key` with null if the key is missing and capacity cannot be reserved. The object is
+    /// unchanged.
     pub fn index_or_insert(&mut self, key: IString) -> Result<&mut IValue, RefusedPair>
         requires { kind_of (node_value self.old).tree ≡ kind_for (by_key key) }
         ensures* writes_back { sem 𝓛 (LendsPutInside self.entry key result) }
@@ -280,7 +288,7 @@ impl Destructured {
     }
 }
 
-/// `value[0]` or `value["port"]`: the value at an index or key, which must exist.
+/// Supports `value[0]` and `value["port"]`. The index or key must exist.
 impl<I: ValueIndex + Drop> Index<I> for Destructured {
     type Output = IValue;
 
@@ -295,9 +303,9 @@ impl<I: ValueIndex + Drop> Index<I> for Destructured {
     }
 }
 
-/// `value[0] = IValue::NULL`: the value at an index or key, which must exist.
+/// Supports `value[0] = IValue::NULL`. The index or key must exist.
 ///
-/// `index_or_insert` adds a missing key.
+/// To add a missing key, use `index_or_insert`.
 impl<I: ValueIndex + Drop> IndexMut<I> for Destructured {
     #[tactic(auto, using(crate::specs::laws::Steps::kind_at))]
     fn index_mut(&mut self, index: I) -> &mut IValue

@@ -1,4 +1,4 @@
-//! Queries for the kind, Boolean and length of a value, and `take`.
+//! Queries for the kind, the Boolean and the length of a value, and `take`.
 ghost use Rattle.std.specs.Prelude.{◌≡◌, ◌≢◌, ◌==◌, ◌↔◌, IsTrue, IfSome, IfNone, true, false, option_map};
 ghost use Rattle.ijson_value.specs.Kind.{kind_of};
 ghost use Rattle.ijson_value.specs.declared.value.ValueType.TheVariants as kind;
@@ -77,7 +77,7 @@ impl IValue {
         }
     }
 
-    /// Returns the Boolean, or `None` if the value is of another kind. See `to_bool`.
+    /// Returns the Boolean, or `None` if the value is of another kind. Same as `to_bool`.
     pub fn as_bool(&self) -> Option<bool>
         ensures some { IfSome result (λ b. self.now.tree ≡ boolean b) }
         ensures none { IfNone result (kind_of self.now.tree ≢ kind.Bool) }
@@ -85,7 +85,8 @@ impl IValue {
         self.to_bool()
     }
 
-    /// Returns the number of elements or entries, or `None` if the value is of another kind.
+    /// Returns the number of elements of an array or entries of an object, or `None` for another
+    /// kind.
     #[tactic(auto, using(crate::specs::laws::Lengths::array_length, crate::specs::laws::Lengths::object_length))]
     pub fn len(&self) -> Option<usize>
         ensures { result ≡ length_of self.now.tree }
@@ -97,7 +98,7 @@ impl IValue {
         }
     }
 
-    /// Returns `true` if an array or object is empty, or `None` if the value is of another kind.
+    /// Returns whether an array or object is empty, or `None` if the value is of another kind.
     #[tactic(auto, using(crate::specs::laws::Lengths::array_length, crate::specs::laws::Lengths::object_length))]
     pub fn is_empty(&self) -> Option<bool>
         ensures { result ≡ option_map (λ length. length == 0) (length_of self.now.tree) }
@@ -109,7 +110,7 @@ impl IValue {
         }
     }
 
-    /// Takes the value out and leaves null. Nothing is copied.
+    /// Returns the value and leaves null in its place. Nothing is copied.
     pub fn take(&mut self) -> IValue
         ensures taken { result ≡ self.old }
         ensures left { self.new ≡ null_value }

@@ -27,7 +27,7 @@ impl IValue {
 
     /// Returns a mutable reference to the number, or `None` if the value is of another kind.
     ///
-    /// `*number = INumber::from(2u64)` replaces it.
+    /// Assigning through the reference replaces the number: `*number = INumber::from(2u64)`.
     pub fn as_number_mut(&mut self) -> Option<&mut INumber>
         ensures* writes_back { sem 𝓛 (LendsNumber self.entry result) }
         ensures some { IfSome result (λ number. self.old ≡ number_value number.now) }

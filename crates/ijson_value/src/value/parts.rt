@@ -1,4 +1,4 @@
-//! The content of a value by kind: by reference, by move, and as an integer.
+//! Access to the content of a value: by reference, by move, and as an integer.
 ghost use Rattle.std.specs.Prelude.{◌≡◌, ◌≢◌, ◌^◌, ◌<◌, ℕ, ℤ, pos, IfSome, IfNone, IfOk, IfErr, FitsSigned};
 ghost use mir.Syntax.{w32, w64};
 ghost use Rattle.ijson_value.specs.Integers.{HasInteger};
@@ -68,7 +68,8 @@ impl IValue {
         }
     }
 
-    /// Moves the number out, or returns a value of another kind as `Err`. Nothing is copied.
+    /// Converts the value to its number, or returns a value of another kind as `Err`. Nothing is
+    /// copied.
     pub fn into_number(self) -> Result<INumber, IValue>
         ensures ok { IfOk result (λ number. self ≡ number_value number) }
         ensures refused { IfErr result (λ value.
@@ -80,7 +81,8 @@ impl IValue {
         }
     }
 
-    /// Moves the string out, or returns a value of another kind as `Err`. Nothing is copied.
+    /// Converts the value to its string, or returns a value of another kind as `Err`. Nothing is
+    /// copied.
     pub fn into_string(self) -> Result<IString, IValue>
         ensures ok { IfOk result (λ string. self ≡ string_value string) }
         ensures refused { IfErr result (λ value.
@@ -92,7 +94,8 @@ impl IValue {
         }
     }
 
-    /// Moves the array out, or returns a value of another kind as `Err`. Nothing is copied.
+    /// Converts the value to its array, or returns a value of another kind as `Err`. Nothing is
+    /// copied.
     pub fn into_array(self) -> Result<IArray, IValue>
         ensures ok { IfOk result (λ array. self ≡ array_value array.items) }
         ensures refused { IfErr result (λ value.
@@ -104,7 +107,8 @@ impl IValue {
         }
     }
 
-    /// Moves the object out, or returns a value of another kind as `Err`. Nothing is copied.
+    /// Converts the value to its object, or returns a value of another kind as `Err`. Nothing is
+    /// copied.
     pub fn into_object(self) -> Result<IObject, IValue>
         ensures ok { IfOk result (λ object. self ≡ object_value object) }
         ensures refused { IfErr result (λ value.
@@ -116,9 +120,9 @@ impl IValue {
         }
     }
 
-    /// Returns the number as an `i64` if it is whole and in range, otherwise `None`.
+    /// Returns the value as an `i64`, or `None` if it is not a whole number in range.
     ///
-    /// `2.0` gives 2, and `2.5` gives `None`.
+    /// For example, `2.0` is returned as 2, and `2.5` as `None`.
     pub fn to_i64(&self) -> Option<i64>
         ensures some { IfSome result (λ z. HasInteger self.now.tree z) }
         ensures none { IfNone result
@@ -127,7 +131,7 @@ impl IValue {
         self.as_number()?.to_i64()
     }
 
-    /// Returns the number as an `i32` if it is whole and in range, otherwise `None`. See `to_i64`.
+    /// Returns the value as an `i32`, or `None` if it is not a whole number in range. See `to_i64`.
     pub fn to_i32(&self) -> Option<i32>
         ensures some { IfSome result (λ z. HasInteger self.now.tree z) }
         ensures none { IfNone result
@@ -136,7 +140,8 @@ impl IValue {
         self.as_number()?.to_i32()
     }
 
-    /// Returns the number as an `isize` if it is whole and in range, otherwise `None`. See `to_i64`.
+    /// Returns the value as an `isize`, or `None` if it is not a whole number in range. See
+    /// `to_i64`.
     pub fn to_isize(&self) -> Option<isize>
         ensures some { IfSome result (λ z. HasInteger self.now.tree z) }
         ensures none { IfNone result
@@ -145,7 +150,7 @@ impl IValue {
         self.as_number()?.to_isize()
     }
 
-    /// Returns the number as a `u64` if it is whole and in range, otherwise `None`. See `to_i64`.
+    /// Returns the value as a `u64`, or `None` if it is not a whole number in range. See `to_i64`.
     pub fn to_u64(&self) -> Option<u64>
         ensures some { IfSome result (λ n. HasInteger self.now.tree (pos n)) }
         ensures none { IfNone result
@@ -154,7 +159,7 @@ impl IValue {
         self.as_number()?.to_u64()
     }
 
-    /// Returns the number as a `u32` if it is whole and in range, otherwise `None`. See `to_i64`.
+    /// Returns the value as a `u32`, or `None` if it is not a whole number in range. See `to_i64`.
     pub fn to_u32(&self) -> Option<u32>
         ensures some { IfSome result (λ n. HasInteger self.now.tree (pos n)) }
         ensures none { IfNone result
@@ -163,7 +168,8 @@ impl IValue {
         self.as_number()?.to_u32()
     }
 
-    /// Returns the number as a `usize` if it is whole and in range, otherwise `None`. See `to_i64`.
+    /// Returns the value as a `usize`, or `None` if it is not a whole number in range. See
+    /// `to_i64`.
     pub fn to_usize(&self) -> Option<usize>
         ensures some { IfSome result (λ n. HasInteger self.now.tree (pos n)) }
         ensures none { IfNone result

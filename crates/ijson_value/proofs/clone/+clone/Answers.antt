@@ -41,7 +41,8 @@ clone_value-returns t c = elim c.match-value.branch [
       ∙ sym (ap node_value w.in-Object.is) ∙ c.value.view_is
 ]
 
--- one more copy in the list
+-- If `old` has the first `i` elements of `xs`, and `y` is a copy of the element at index `i`, then
+-- `old ++ y ∷ []` has the first `i + 1` elements.
 one_more : {X : Type 0} (xs : List X) (i : ℕ) (x y : X) (old new : List X) → new ≡ old ++ y ∷ [] → old ≡ take i xs → y ≡ x
     → i < length xs → x ≡ get_or xs i x → new ≡ take (i + 1) xs
 one_more xs i x y old new pushed before copied h is =

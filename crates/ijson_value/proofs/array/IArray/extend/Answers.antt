@@ -6,6 +6,7 @@ use Rattle.std.proofs.lemmas.List.{append_assoc, append-nil}
 use Rattle.std.proofs.lemmas.Result.{err_from_is_err_and}
 use Rattle.ijson_value.proofs.array.IArray.extend.Goals as goal
 
+-- If an iterator yields the elements `xs` and then `x`, it yields the elements `xs ++ x ∷ []`.
 yields_more : {S A : Type 0} (steps : S → Option A → S → Type 0) (s t u : S) (xs : List A) (x : A)
     → Yields steps s xs t → steps t (Some x) u → Yields steps s (xs ++ x ∷ []) u
 yields_more steps s t u [] x e h = (u, subst (λ r. steps r (Some x) u) (sym e) h, refl)

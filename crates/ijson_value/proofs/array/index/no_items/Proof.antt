@@ -1,4 +1,5 @@
--- The pointer of an array lends an empty slice and is unchanged. By hand, since the slice is no part of the pointer.
+-- `no_items` lends an empty slice and leaves the pointer of the array unchanged. The proof is
+-- written by hand, because the slice is not a part of the pointer.
 use Rattle.std.proofs.Common.{List, [], ◌∷◌, refl, lit<, MutBor, arith}
 use Rattle.std.proofs.raw_atomic.Walks.{proved}
 use mir.Syntax.{named}
@@ -37,7 +38,7 @@ no_items_spec 𝓤 𝓛 𝓜 𝓡 wired =
     let κ = κs.0 in let q = qs.0 in let r = a.0 in let b = r.ref_ptr.0 in let o = r.ref_ptr.1 in
     qed 𝓛 (((‵ (flft κ q) ⊛ ‵ ftrue) ⊛ ‵ ((MutRef (named 0) κ place_row).own_val r (mut_vals r)) ⊛ ‵ ftrue) ∷ ‵ ftrue ∷ []) ∵
     split ! $ split ! $ move ! (2 ∷ []) $ split ! $ keep ! (0 ∷ 2 ∷ []) $
-    -- [the reference; the token]
+    -- The proof context is [the reference; its token].
     enter ! _ _ _ _ _ $ alloc_all ! (λ l. pass_all ! refl ((tt, tt), tt) $
     sets ! (agg ! (no_more !)) refl (tt, tt) $
     sets ! (addr ! (from ! (stop !))) refl (tt, tt) $
@@ -50,6 +51,6 @@ no_items_spec 𝓤 𝓛 𝓜 𝓡 wired =
     returns ! (look_at ! 0 refl) $ free_all ! refl $ keep ! (0 ∷ []) $
     use1 𝓛 (‵ ((MutSlice (named 0) κ value.the_row).own_val slice (slice_val (l 2, 0) 0 ∷ [])) ⊛ ‵ (flft κ q)
     ⊛ ‵ (follows place_row (Array value.the_row 0) r.ghost_name δ (λ _. r.now))) (id⊢ 𝓤 _) $ split3 ! $
-    -- [the slice; the token; the formula of the pointer]
+    -- The proof context is [the slice; the token; the formula of the pointer].
     suffices ! _ (ends_at 𝓛 f.ended stayed c ((κs, qs, bounds, a, (mut_vals r, tt)), g) (slice_val (l 2, 0) 0) slice (tt, tt) (tt, tt)) $
     nothing ! $ nothing ! $ fjoin ! $ join ! $ nothing ! $ move ! (2 ∷ 0 ∷ []) $ join ! $ join ! $ frame ! $ says ! refl $ done !)))

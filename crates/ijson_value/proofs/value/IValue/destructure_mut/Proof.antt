@@ -1,4 +1,5 @@
--- A value lends its part, by a call for each kind. Assumes `Logic`.
+-- `destructure_mut` lends the part of a value by a separate call for each kind. The proof assumes
+-- `Logic`.
 use Rattle.ijson_value.proofs.lends.Steps.{◌≡◌, [], ◌∷◌, refl, sym, ap, subst, ◌∙◌, lit<, MutBor, proved, full_share, id⊢, Lft, ftrue}
 use Rattle.ijson_value.proofs.lends.Steps.{flft, fres, named, Val, fact, tables, ‵, raw, ◌⊛◌, some, later, at_ret, ◌$◌, ◌∵◌, !, qed, done}
 use Rattle.ijson_value.proofs.lends.Steps.{move, keep, use1, use2, split, join, rewrite, fsplit, fsplit3, fjoin, pick, await, suffices}
@@ -68,7 +69,8 @@ destructure_mut_spec 𝓤 𝓛 𝓜 𝓡 wired =
     qed 𝓛 (((‵ (flft κ q) ⊛ ‵ ftrue) ⊛ ‵ ((Ref V).own_val r vs) ⊛ ‵ ftrue) ∷ ‵ ftrue ∷ []) ∵
     split ! $ split ! $ move ! (2 ∷ []) $ split ! $ keep ! (0 ∷ 2 ∷ []) $
     enter ! _ _ _ _ _ $ alloc_all ! (λ l. pass_all ! refl ((tt, tt), tt) $
-    -- the enum of the parts is returned
+    -- `leaves` proves that the function can return the `DestructuredMut` with the formula
+    -- `LendsParts`.
     let leaves : (u : Val) (x : DestructuredMut) → Typed (PartsOf at).mir (u ∷ []) → mut_value x ≡ r.now
     → Sq 𝓛 (‵ ((PartsOf at).own_val x (u ∷ [])) ∷ ‵ (LendsParts r x) ∷ ‵ (flft κ q) ∷ holding 𝓛 (env code.Mir.locals l) ((4, u) ∷ []))
     (prop (Wp 𝓤 𝓛.H 𝓣.C 𝓣.Λ (env code.Mir.locals l) code.Mir.t-4 (post 𝓤 𝓛.H (at_ret (env code.Mir.locals l) (W.post y))))) =
@@ -77,10 +79,10 @@ destructure_mut_spec 𝓤 𝓛 𝓜 𝓡 wired =
     returns ! (look_at ! 0 refl) $ free_all ! refl $ keep ! (0 ∷ 2 ∷ 1 ∷ []) $
     suffices ! _ (ends_at 𝓛 f.ended stayed c y u x (tt, tt) (tt, tt)) $ nothing ! $ nothing ! $ fjoin ! $ join ! $
     nothing ! $ move ! (2 ∷ 0 ∷ []) $ join ! $ join ! $ frame ! $ says ! stands $ done ! in
-    -- [the value; its token]
+    -- The proof context is [the value; the value's token].
     sets ! (addr ! (through ! refl (stop !))) refl (tt, tt) $
     lent 𝓛 ! tt V κ q r (λ α δ. let β : Lft = α ∷ [] in
-    -- [the loan; what the lender keeps; the token of α]
+    -- The proof context is [the loan; the lender's assertion; the token of `α`].
     let r' : MutBor WellFormed = record r { ghost_name = δ } in
     let G = triple_of 𝓛 g.signature (g.spec 𝓛 𝓜.mem 𝓡.returns) in
     let z : G.Ghost = (((β, tt), (full_share, tt), tt, (r', tt), (vs, tt)), tt) in
@@ -94,14 +96,16 @@ destructure_mut_spec 𝓤 𝓛 𝓜 𝓡 wired =
     await ! tt $ pick ! (λ x. split ! $ split ! $ split ! $ lft_end ! tt $ move ! (3 ∷ []) $
     pick ! (λ ws. split ! $ move ! (1 ∷ []) $ split ! $ heard ! _ (λ kept. heard ! _ (λ told. fsplit ! $ fsplit ! $
     rewrite ! 0 (λ (n : WellFormed). ‵ (fres δ (V.coded.code n))) kept refl $
-    -- [the loan's last value; its borrow; nothing; α is over; nothing; the kind; what the lender keeps]
+    -- The proof context is [the loan's last value; the loan's borrow; `ftrue`; the end of `α`;
+    -- `ftrue`; the kind; the lender's assertion].
     move ! (3 ∷ 6 ∷ 0 ∷ []) $ back 𝓛 ! tt V κ q r α δ r.now $
-    -- [the value; its token; its borrow; nothing; nothing; the kind]
+    -- The proof context is [the value; the value's token; the loan's borrow; `ftrue`; `ftrue`; the
+    -- kind].
     move ! (2 ∷ 3 ∷ 4 ∷ 5 ∷ []) $ drop ! $ drop ! $ drop ! $ facts ! KindRow _ (shows 𝓛 KindRow) x (v ∷ []) (λ seen.
     let at_kind : v ≡ live (tag_of Kinds x) (of_list []) = ap only (bare_tells Kinds tt x (v ∷ []) seen) in
     let is : (k : ValueType) → tag_of Kinds x ≡ tag_of Kinds k → kind_of r.now.tree ≡ k = λ k e. sym told ∙ tag_one Kinds tt x k e in
     lands_as ! at_kind refl (subst (λ (u : Val). Typed KindRow.mir (u ∷ [])) at_kind ((kind_laws.lawful 𝓛).typed x (v ∷ []) seen)).0 $
-    -- [the value; its token]
+    -- The proof context is [the value; the value's token].
     first ! $ by_variants ! 26 (whole !) (get_tag ! (vrt ! refl (fld ! refl (stop !))) (whole !)) tt (
       (λ e. sets_last ! (agg ! (and_then ! (lit ! tt) (no_more !))) refl (tt, (record { fits = lit< tt }, tt)) $
           fsplit3 ! $ move ! (0 ∷ 2 ∷ []) $ drop ! $ drop ! $

@@ -1,4 +1,4 @@
--- The call on the object itself. Assumes `Logic`.
+-- `index_into_mut` returns the result of `get_key_value_mut`. The proof assumes `Logic`.
 use Rattle.ijson_value.proofs.lends.Steps.{◌≡◌, List, [], ◌∷◌, refl, proved, id⊢, ftrue, flft, named, Val, fact, fact_i}
 use Rattle.ijson_value.proofs.lends.Steps.{emp, tables, ‵, raw, ◌⊛◌, ◌$◌, ◌∵◌, !, qed, done, move, keep, use0}
 use Rattle.ijson_value.proofs.lends.Steps.{use3, split, join, fjoin, suffices, frame, enter, addr, stop, no_more, and_then}
@@ -44,7 +44,7 @@ index_into_mut_spec 𝓤 𝓛 𝓜 𝓡 wired I LI CI gx dx gs ds gc dc mx ms mc
     (fact 𝓤 (κ' ⊑ I.lives)) ∷ ‵ ftrue ∷ []) ∵
     move ! (1 ∷ []) $ heard ! _ (λ out.
     split ! $ move ! (1 ∷ []) $ split ! $ move ! (1 ∷ []) $ split ! $ keep ! (3 ∷ 2 ∷ 0 ∷ []) $
-    -- [the tokens; the index; the object]
+    -- The proof context is [the tokens; the index; the object].
     enter ! _ _ _ _ _ $ alloc_all ! (λ l. pass_all ! refl ((((copied_laws 0 I LI).lawful 𝓛).typed k ks are.0).0, ((tt, tt), tt)) $
     sets ! (addr ! (through ! refl (stop !))) refl (tt, tt) $
     let G = triple_of 𝓛 (g.signature I) (g.spec I gx dx gs ds gc dc 𝓛 𝓜.mem 𝓡.returns) in
@@ -58,7 +58,7 @@ index_into_mut_spec 𝓤 𝓛 𝓜 𝓡 wired I LI CI gx dx gs ds gc dc mx ms mc
     answered 𝓛 ! tt (‵ (flft κ q) ⊛ ‵ (flft κ' q') ⊛ ‵ ftrue) (OptionOf (Pair κ)) v
     (λ x (ws : Unit {0} × (Unit {0} × Unit {0})). lasts (g.ended I gx dx gs ds gc dc) κs (r, (k, tt)) ws) (LendsPairIf r (gs.key k))
     (λ x. option_map deref_pair_mut x ≡ pair_at_key (gs.key k) r.now.pairs) (id⊢ 𝓤 _) (λ x is told.
-    -- [the result; the formula of the object; the tokens]
+    -- The proof context is [the result; the formula of the object; the tokens].
     lands_as ! refl refl (((pair_found_laws κ).lawful 𝓛).typed x (v ∷ []) told).0 $
     returns ! (look_at ! 0 refl) $ free_all ! refl $ keep ! (0 ∷ 2 ∷ 1 ∷ []) $
     suffices ! _ (ends_at 𝓛 En hs c y v x (tt, (tt, tt)) (tt, (tt, tt))) $

@@ -5,7 +5,7 @@ use Rattle.ijson_value.proofs.pairs.Entries.{placed, finds_no_room, refused_same
 use Rattle.ijson_value.proofs.object.map.IObject.entry.Goals as goal
 use Rattle.ijson_value.proofs.object.map.IObject.entry.Goals.{In-None}
 
--- the key does not exist
+-- If the lookup of the key returns `None`, then the key is missing.
 absent : (c : In-None) → at c.args.self.now.pairs c.args.key ≡ None
 absent c = placed c.args.self.now.pairs c.as_str-text.ensures c.position_hashed.ensures.position c.in-None.is
 

@@ -6,11 +6,11 @@ use Rattle.ijson_value.proofs.pairs.Entries.{placed, finds_no_room, refused_same
 use Rattle.ijson_value.proofs.object.map.IObject.entry_or_clone.Goals as goal
 use Rattle.ijson_value.proofs.object.map.IObject.entry_or_clone.Goals.{In-None}
 
--- a length that is not at most 7 is above 7
+-- A length that is not at most 7 is greater than 7.
 above : (n : ℕ) → (n ≤ 7 → ⊥) → 7 < n
 above n h = elim (cases_lt 7 n) [ inl long ↦ long | inr short ↦ absurd (h short) ]
 
--- the key does not exist
+-- If the lookup of the key returns `None`, then the key is missing.
 absent : (c : In-None) → at c.args.self.now.pairs c.args.key.now ≡ None
 absent c = placed c.args.self.now.pairs c.as_str-text.ensures c.position_hashed.ensures.position c.in-None.is
 

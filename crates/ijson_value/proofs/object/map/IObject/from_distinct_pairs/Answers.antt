@@ -8,7 +8,7 @@ use Rattle.ijson_table.specs.Store.{put_each}
 use Rattle.ijson_value.specs.Gives.{GivesAll}
 use Rattle.ijson_value.proofs.object.map.IObject.from_distinct_pairs.Goals as goal
 
--- the source yields one more than the list contains, so the list is not full
+-- Before each push, the list has spare capacity, because the source yields another entry.
 pub push_reserved-requires : goal.push_reserved-requires
 push_reserved-requires g c =
     let so_far = c.loop-pair.invariant in
@@ -28,7 +28,7 @@ loop-pair-preserved g c = (
   c.push_reserved.ensures.capacity ∙ c.loop-pair.invariant.3,
 )
 
--- the keys are distinct, so each entry is appended
+-- The object has the yielded entries, because their keys are distinct.
 pub returns-clause-pairs : goal.returns-clause-pairs
 returns-clause-pairs g c =
     let yielded = c.loop-pair.yielded in
@@ -38,7 +38,7 @@ returns-clause-pairs g c =
     subst (GivesAll g.I.IntoIterator.into_iter_gives g.I.IntoIter.Iterator.next_gives c.args.pairs) (sym (made ∙ last)) gives)
     c.from_pairs.ensures.pairs
 
--- the number of the entries is `count`
+-- The capacity of the object is `count`, because the source yields `count` entries.
 pub returns-clause-capacity : goal.returns-clause-capacity
 returns-clause-capacity g c =
     let yielded = c.loop-pair.yielded in

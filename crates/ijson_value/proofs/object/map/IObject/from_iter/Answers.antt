@@ -13,7 +13,7 @@ returns-in-Ok g c =
     (λ i. (c.new-object.ensures.pairs i, c.new-object.ensures.capacity i)) all.1 in
     (all.0, (search rules, all.2))
 
--- the object built so far is the one that did not grow
+-- If an insertion fails, the object built so far is the object that could not grow.
 pub returns-in-Err : goal.returns-in-Err
 returns-in-Err g c =
     let made : Store WellFormed = c.extend.new.self in

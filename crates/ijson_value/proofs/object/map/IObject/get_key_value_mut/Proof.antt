@@ -1,4 +1,4 @@
--- A map lends the value of a key, with the key. Assumes `Logic`.
+-- `get_key_value_mut` lends the value of a key, together with the key. The proof assumes `Logic`.
 use Rattle.ijson_value.proofs.lends.Steps.{◌≡◌, ℕ, List, [], ◌∷◌, refl, sym, ap, subst, ◌∙◌, lit<, w64, MutBor, proved, full_share}
 use Rattle.ijson_value.proofs.lends.Steps.{id⊢, Lft, ftrue, flft, fres, named, Val, fact, fact_i, emp, tables, ‵, raw, ◌⊛◌, some}
 use Rattle.ijson_value.proofs.lends.Steps.{later, at_ret, ◌$◌, ◌∵◌, !, qed, done, move, keep, use0, use1, use2, use3, split, join}
@@ -62,10 +62,11 @@ get_key_value_mut_spec 𝓤 𝓛 𝓜 𝓡 wired I LI CI gx dx gs ds gc dc mx ms
     move ! (1 ∷ []) $ heard ! _ (λ out.
     split ! $ split ! $ move ! (1 ∷ []) $ split ! $ move ! (3 ∷ []) $ split ! $ move ! (1 ∷ []) $ split ! $ keep ! (2 ∷ 5 ∷ 3 ∷ 0 ∷ []) $
     enter ! _ _ _ _ _ $ alloc_all ! (λ l. pass_all ! refl ((tt, tt), ((((copied_laws 0 I LI).lawful 𝓛).typed k ks are.1.0).0, tt)) $
-    -- [the map; its token; the index's token; the index]
+    -- The proof context is [the object; the object's token; the index's token; the index].
     sets ! (addr ! (through ! refl (stop !))) refl (tt, tt) $
     lent 𝓛 ! tt M κ q r (λ α δ. let β : Lft = α ∷ [] in
-    -- [the loan; what the lender keeps; the token of α; the index's token; the index]
+    -- The proof context is [the loan; the lender's assertion; the token of `α`; the index's token;
+    -- the index].
     let r' : MutBor M.Denot = record r { ghost_name = δ } in
     let G = triple_of 𝓛 (g.signature I) (g.spec I gx dx gs ds gc dc 𝓛 𝓜.mem 𝓡.returns) in
     let z : G.Ghost = (((β, (κ', tt)), (full_share, (q', tt)), tt, (r', (k, tt)), (vs, (ks, tt))), tt) in
@@ -84,9 +85,11 @@ get_key_value_mut_spec 𝓤 𝓛 𝓜 𝓡 wired I LI CI gx dx gs ds gc dc mx ms
     pick ! (λ ws. split ! $ move ! (1 ∷ []) $ split ! $ move ! (1 ∷ []) $ split ! $
     heard ! _ (λ found. heard ! _ (λ within. heard ! _ (λ kept. fsplit ! $ fsplit ! $
     rewrite ! 0 (λ (n : M.Denot). ‵ (fres δ (M.coded.code n))) kept refl $
-    -- [the loan's last value; its borrow; nothing; the index's token; nothing; α is over; the result; what the lender keeps]
+    -- The proof context is [the loan's last value; the loan's borrow; `ftrue`; the index's token;
+    -- `ftrue`; the end of `α`; the result; the lender's assertion].
     move ! (5 ∷ 7 ∷ 0 ∷ []) $ back 𝓛 ! tt M κ q r α δ r.now $
-    -- [the map; its token; the borrow; nothing; the index's token; nothing; the result]
+    -- The proof context is [the object; the object's token; the borrow; `ftrue`; the index's token;
+    -- `ftrue`; the result].
     by_option x
     (λ none. rewrite ! 6 (λ (x' : Option ℕ). ‵ ((OptionOf usize).own_val x' (v ∷ []))) none refl $ move ! (6 ∷ []) $
     none_out ! usize (v ∷ []) (λ at.
@@ -115,7 +118,8 @@ get_key_value_mut_spec 𝓤 𝓛 𝓜 𝓡 wired I LI CI gx dx gs ds gc dc mx ms
     rewrite ! 0 (λ (us : List Val). ‵ (usize.own_val i us)) is_at refl $
     lands_as ! (ap only at ∙ ap (λ (us : List Val). live 1 (of_list (us ++ []))) is_at) refl
     (tt, (record { fits = lit< tt }, (record { fits = told.1 }, tt))) $
-    -- [the position; the map; its token; the borrow; nothing; the index's token; nothing]
+    -- The proof context is [the index found; the object; the object's token; the borrow; `ftrue`;
+    -- the index's token; `ftrue`].
     first ! $ switches ! (get_tag ! (vrt ! refl (fld ! refl (stop !))) (whole !))
     ((
       λ _. sets ! (of_opd ! (get_in ! (vrt ! refl (fld ! refl (stop !))) (in_variant ! 1 0 refl refl (whole !)))) refl
@@ -131,7 +135,8 @@ get_key_value_mut_spec 𝓤 𝓛 𝓜 𝓡 wired I LI CI gx dx gs ds gc dc mx ms
           answered 𝓛 ! tt (‵ (flft κ q) ⊛ ‵ ftrue) (Pair κ) w
           (λ pair (ws' : Unit {0} × (Unit {0} × Unit {0})). lasts h.ended (κ, tt) (r, (i, tt)) ws') (λ pair. LendsValue r i pair.1)
           (λ pair. slice_get r.now.pairs i ≡ Some (pair.0.now, pair.1.now)) (id⊢ 𝓤 _) (λ pair stands told'. let typed =
-          -- [the pair; the formula of the map; its token and nothing; the borrow; nothing; the index's token; nothing]
+          -- The proof context is [the pair; the formula of the object; the object's token and
+          -- `ftrue`; the borrow; `ftrue`; the index's token; `ftrue`].
           (((pair_laws κ).lawful 𝓛).typed pair (w ∷ []) told').0 in
           lands_as ! refl refl typed $
           sets_last ! (agg ! (and_then ! (lit ! tt) (and_then ! (get ! refl) (no_more !)))) refl

@@ -11,13 +11,13 @@ use Rattle.ijson_value.proofs.pairs.Entries.{got_last}
 use Rattle.ijson_value.proofs.object.map.IObject.insert_new.Goals as goal
 
 module _ {X : Type 0} (xs : List X) (x : X) where
-  -- a list without the item that was appended to it
+  -- Removing the element that was appended to `xs` leaves `xs`.
   last_out : remove (xs ++ x ∷ []) (length xs) ≡ xs
   last_out =
       let none : length xs - length xs ≡ 0 = omega arith in
       remove-append_right xs (x ∷ []) (length xs) (length xs) refl (omega arith) ∙ ap (λ n. xs ++ remove (x ∷ []) n) none ∙ append-nil xs
 
-  -- an item inserted past the end is appended
+  -- Inserting an element past the end is the same as appending it.
   insert_within : (i : ℕ) → insert xs (min i (length xs)) x ≡ insert xs i x
   insert_within i = elim (cases_lt (length xs) i) [
     | inl past ↦

@@ -5,7 +5,8 @@ use Rattle.ijson_value.specs.Retains.{RetainsFrom}
 use Rattle.ijson_value.specs.WellFormed.{WellFormed}
 use Rattle.ijson_value.proofs.object.map.IObject.retain.Given as goal
 
--- the remaining calls may be made, and their effect is that of all calls
+-- The closure may be called on the remaining entries. If the remaining calls can leave the entries
+-- `qs`, then all calls can leave `qs`.
 abbrev pub invariant-loop-index : goal.invariant-loop-index
 invariant-loop-index g l =
     MayAskFrom (CalledAtPair g.F.FnMut) (TakesPair g.F.FnMut) l.keep l.index l.self.pairs × (l.self.capacity ≡ l.fn.self.capacity)

@@ -16,7 +16,7 @@ loop-key-init c = (
   omega (arith, ap length c.in-Ok.ensures.pairs),
 )
 
--- an entry is left, so the object is not full
+-- Before each insertion, the object has spare capacity, because the list has another entry.
 pub insert_within-requires : goal.insert_within-requires
 insert_within-requires c =
     let gives = c.into_iter-key-iterator.ensures.into_iter_gives in

@@ -2,7 +2,7 @@ use Rattle.std.proofs.Common.{◌≡◌, ◌≤◌, [], length}
 use Rattle.ijson_table.specs.Store.{put_each}
 use Rattle.ijson_value.proofs.object.map.IObject.try_from_pairs.Given as goal
 
--- the entries so far are inserted, and there is capacity for all
+-- The entries yielded so far are inserted, and the capacity is the number of all entries.
 abbrev pub invariant-loop-key : goal.invariant-loop-key
 invariant-loop-key l =
     goal.iterator-loop-key.can_next l.key-iterator

@@ -1,4 +1,5 @@
--- The value derefs to its content, which lends. Assumes `Logic`.
+-- `index_into_mut` derefs the value to its content and returns the result of `get_mut` on the
+-- content. The proof assumes `Logic`.
 use Rattle.ijson_value.proofs.lends.Steps.{◌≡◌, List, [], ◌∷◌, refl, sym, ap, ◌∙◌, MutBor, proved, id⊢, ftrue, flft, named, Val, fact}
 use Rattle.ijson_value.proofs.lends.Steps.{fact_i, emp, tables, ‵, raw, ◌⊛◌, ◌$◌, ◌∵◌, !, qed, done, move, keep, use0}
 use Rattle.ijson_value.proofs.lends.Steps.{use2, use3, split, join, rewrite, fjoin, suffices, frame, enter, addr, stop}
@@ -37,7 +38,8 @@ use Rattle.ijson_value.proofs.value.index.IValueDerefMut.deref_mut.Met as g-thm
 use Rattle.ijson_value.specs.contracts.value.IValue.get_mut as h
 use Rattle.ijson_value.proofs.value.IValue.get_mut.Met as h-thm
 
--- the tree of a value whose content is changed one step inside
+-- If the content of the value `r` is `n`, then writing the value at `step` of `n` changes the tree
+-- of `r` to `tree_with`.
 module _ (r : WellFormed) (n : Destructured) (step : Step) (same : node_value n ≡ r) where
   tree_put : (x : Option (MutBor WellFormed)) → option_map (λ found. found.now.tree) x ≡ tree_at (node_value n).tree step → (w : WellFormed)
       → OnSome x ((node_value (with_step n step w)).tree ≡ tree_with r.tree step w.tree)
@@ -65,11 +67,11 @@ index_into_mut_spec 𝓤 𝓛 𝓜 𝓡 wired I LI CI gx dx gs ds gc dc mx ms mc
     (fact 𝓤 (κ' ⊑ I.lives)) ∷ raw (fact 𝓤 (kind_of r.now.tree ≡ kind_for step)) ∷ []) ∵
     move ! (1 ∷ []) $ heard ! _ (λ out. move ! (1 ∷ []) $ heard ! _ (λ kind.
     split ! $ move ! (1 ∷ []) $ split ! $ move ! (1 ∷ []) $ split ! $ keep ! (3 ∷ 2 ∷ 0 ∷ []) $
-    -- [the tokens; the index; the value]
+    -- The proof context is [the tokens; the index; the value].
     enter ! _ _ _ _ _ $ alloc_all ! (λ l. pass_all ! refl ((((copied_laws 0 I LI).lawful 𝓛).typed k ks are.0).0, ((tt, tt), tt)) $
     sets ! (addr ! (through ! refl (stop !))) refl (tt, tt) $
     split ! $ move ! (3 ∷ 0 ∷ []) $
-    -- [the value; its token; the index's token; the index]
+    -- The proof context is [the value; the value's token; the index's token; the index].
     let G = triple_of 𝓛 g.signature (g.spec 𝓛 𝓜.mem 𝓡.returns) in
     let z : G.Ghost = (((κ, tt), (q, tt), tt, (r, tt), (vs, tt)), tt) in
     nothing ! $ move ! (1 ∷ 0 ∷ []) $ join ! $ nothing ! $ move ! (2 ∷ 0 ∷ []) $ join ! $ join ! $ nothing ! $ move ! (1 ∷ 0 ∷ []) $
@@ -82,7 +84,8 @@ index_into_mut_spec 𝓤 𝓛 𝓜 𝓡 wired I LI CI gx dx gs ds gc dc mx ms mc
     lands_as ! (ap only opened_at) refl (tt, tt) $
     rewrite ! 0 (λ (us : List Val). ‵ ((MutRef (named 0) κ N).own_val u us)) opened_at refl $
     move ! (2 ∷ []) $ split ! $ move ! (2 ∷ 2 ∷ []) $
-    -- [content; the formula of the value; its token; nothing; the index's token; the index]
+    -- The proof context is [the content; the formula of the value; the content's token; `ftrue`;
+    -- the index's token; the index].
     let H = triple_of 𝓛 (h.signature I) (h.spec I gx dx gs ds gc dc 𝓛 𝓜.mem 𝓡.returns) in
     let z' : H.Ghost = ((κs, qs, tt, (u, (k, tt)), (mut_vals u, (ks, tt))), tt) in
     move ! (5 ∷ []) $ nothing ! $ move ! (1 ∷ 0 ∷ []) $ join ! $ move ! (1 ∷ 0 ∷ []) $ join ! $ move ! (2 ∷ 4 ∷ []) $ join ! $ join ! $
@@ -96,7 +99,8 @@ index_into_mut_spec 𝓤 𝓛 𝓜 𝓡 wired I LI CI gx dx gs ds gc dc mx ms mc
     answered 𝓛 ! tt (‵ (flft κ q) ⊛ ‵ (flft κ' q') ⊛ ‵ ftrue) (OptionOf Lent) w
     (λ o (ws : Unit {0} × (Unit {0} × Unit {0})). lasts (h.ended I gx dx gs ds gc dc) κs (u, (k, tt)) ws) (LendsStepIf u step)
     (λ o. option_map (λ found. found.now.tree) o ≡ tree_at (node_value u.now).tree step) (id⊢ 𝓤 _) (λ o is told'.
-    -- [the result; the formula of the content; the tokens; the formula of the value; nothing]
+    -- The proof context is [the result; the formula of the content; the tokens; the formula of the
+    -- value; `ftrue`].
     lands_as ! refl refl (((value_found_laws κ).lawful 𝓛).typed o (w ∷ []) told').0 $
     move ! (3 ∷ 1 ∷ []) $ use2 𝓛 (‵ (LendsInsideIf r step o))
     (then_so 𝓛 V N V node_value (with_step u.now step) u.now (λ w' n. OnSome o (n.tree ≡ tree_with r.now.tree step w'.tree))
