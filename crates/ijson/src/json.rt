@@ -1,5 +1,5 @@
 //! JSON text: reading, writing, and compacting from a source to a sink.
-// A module, since an alias cannot have the name of a macro of `serde_json`.
+// A module instead of an alias, which would clash with a macro of `serde_json`.
 
 pub use ijson_json::{
     CompactError, DeviceFault, JsonError, LineColumn, LocatedError, MemorySink, MemorySource, Sink,

@@ -1,10 +1,13 @@
 //! Compact JSON values with exact decimals.
 //!
-//! A number is an exact decimal that keeps whether it was written with a decimal point; an object is an ordered list of entries with
-//! distinct keys, equal to another in any order of its entries. `json::from_json` reads JSON and `json::to_json` writes it. Every function
-//! that allocates can return an error instead. This crate re-exports the modules of the library.
+//! A number is an exact decimal that remembers whether it was written with a decimal point. An
+//! object is an ordered list of entries with distinct keys. `==` ignores the order of entries.
 //!
-//! The tests of all modules are in `src/tests`, and small programs with contracts of their own in `src/examples`.
+//! `json::from_json` reads JSON and `json::to_json` writes it. Every function that allocates
+//! returns an error if the allocation fails. This crate re-exports the modules of the library.
+//!
+//! The tests of all modules are in `src/tests`. Example programs with contracts are in
+//! `src/examples`.
 #![tactic(auto)]
 
 pub mod json;

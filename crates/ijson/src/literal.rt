@@ -1,7 +1,7 @@
-//! The steps of an `ijson!` literal, not meant to be called directly.
+//! The functions that an `ijson!` literal calls. Do not call them directly.
 //!
-//! If an allocation fails, a step drops the element or entry it was given and leaves its list or object as it was. So only the lists and
-//! objects built so far remain to be dropped.
+//! If an allocation fails, the function drops its element or entry and leaves the list or object
+//! unchanged. The macro then drops the lists and objects built so far.
 ghost use Rattle.std.specs.Prelude.{◌≡◌, ◌<◌, ◌≤◌, ◌∷◌, ◌++◌, [], length, map, OnOk, OnErr, IfOk, IfErr, IsOk, IsSome};
 ghost use Rattle.ijson_string.specs.Cache.{interned};
 ghost use Rattle.ijson_table.specs.Store.{lookup, put};
@@ -30,7 +30,7 @@ pub fn intern<S: BuildHasher>(
     Ok(IString::intern(cache, key)?)
 }
 
-/// Appends an element. If there is no capacity, it is dropped, and the list stays as it was.
+/// Appends an element. If an allocation fails, `item` is dropped and `list` is unchanged.
 pub fn push(list: &mut IArray, item: IValue) -> Result<(), ConvertError>
     ensures items { OnOk result (list.new.items ≡ list.old.items ++ item ∷ []) }
     ensures memory { IfErr result (λ e. e ≡ Memory) }
@@ -40,7 +40,7 @@ pub fn push(list: &mut IArray, item: IValue) -> Result<(), ConvertError>
     Ok(list.push(item)?)
 }
 
-/// Appends the value of `x`. If an allocation fails, the list stays as it was.
+/// Appends the JSON value of `x`. If an allocation fails, `list` is unchanged.
 pub fn push_of<T: ToIValue, S: BuildHasher>(
     alloc: Global,
     cache: &mut StringCache<S>,
@@ -59,9 +59,9 @@ pub fn push_of<T: ToIValue, S: BuildHasher>(
     push(list, to_value(alloc, cache, x)?)
 }
 
-/// Inserts an entry, dropping the old value of its key.
+/// Inserts an entry. The old value of the key is dropped.
 ///
-/// If there is no capacity, the entry is dropped, and the object stays as it was.
+/// If an allocation fails, the new entry is dropped and `object` is unchanged.
 pub fn insert(object: &mut IObject, key: IString, value: IValue) -> Result<(), ConvertError>
     ensures pairs { OnOk result (object.new.pairs ≡ put object.old.pairs key value) }
     ensures memory { IfErr result (λ e. e ≡ Memory) }
@@ -73,9 +73,10 @@ pub fn insert(object: &mut IObject, key: IString, value: IValue) -> Result<(), C
     Ok(())
 }
 
-/// Inserts an entry of this key and the value of `x`, dropping the old value of the key.
+/// Inserts an entry with the key `key` and the JSON value of `x`. The old value of the key is
+/// dropped.
 ///
-/// If an allocation fails, the object stays as it was.
+/// If an allocation fails, `object` is unchanged.
 pub fn insert_of<T: ToIValue, S: BuildHasher>(
     alloc: Global,
     cache: &mut StringCache<S>,

@@ -1,15 +1,18 @@
-//! `ijson!`: values written as literals. It consumes the tokens of a literal one value at a time, like the macro of the Rust crate.
+//! `ijson!`: JSON values written as literals.
+//!
+//! The macro consumes the tokens of a literal one value at a time, like the macro of the Rust crate
+//! `ijson`.
 
-/// Creates a value from a literal, as a `Result<IValue, ConvertError>`.
+/// Creates a JSON value from a literal, as a `Result<IValue, ConvertError>`.
 ///
 /// A literal is one of:
 /// - `null`
 /// - a list in brackets, or an object in braces, of literals
-/// - an expression whose type implements `ToIValue`, like a value or a part of it; it is copied
+/// - an expression of a type that implements `ToIValue`, such as a value; it is copied
 ///
-/// There are no floats. A key is a `&str` expression; a later equal key replaces the value. A
-/// trailing comma is allowed; a misplaced token does not compile. Capacity grows as by `push` and
-/// `insert`.
+/// Floats are not supported. A key is an expression of type `&str`; a duplicate key replaces the
+/// earlier value. A trailing comma is allowed, and a misplaced token does not compile. Capacity
+/// grows as with `push` and `insert`.
 ///
 /// ```
 /// let value = ijson!(alloc, &mut cache; {"name": "ijson", "sizes": [1u8, 2u8, null], "nested": {"deep": true}})?;
@@ -17,7 +20,8 @@
 ///
 /// # Errors
 ///
-/// Returns `Memory` if an allocation fails. The partial value is dropped, and some of the strings may be in the cache.
+/// Returns `Memory` if an allocation fails. The partial value is dropped. Some of the strings may
+/// then be in the cache.
 #[macro_export]
 macro_rules! ijson {
     ($alloc:expr, $cache:expr; $($json:tt)+) => {{
@@ -30,10 +34,10 @@ macro_rules! ijson {
     }};
 }
 
-/// A hidden helper of `ijson!`.
+/// A hidden helper of `ijson!`, which expands the literal.
 #[macro_export]
 macro_rules! ijson_internal {
-    // `?`, which leaves the block and not the function of the caller.
+    // Like `?`, but leaves the block of the literal instead of the caller's function.
     (@try $out:lifetime $step:expr) => {
         match $step {
             Ok(done) => done,
@@ -41,7 +45,7 @@ macro_rules! ijson_internal {
         }
     };
 
-    // Elements: a value follows, or an expression up to a comma.
+    // Elements: the tokens begin with a value, or with an expression that ends at a comma.
     (@array $a:ident $c:ident $out:lifetime $list:ident) => {};
     (@array $a:ident $c:ident $out:lifetime $list:ident null $($rest:tt)*) => {
         $crate::ijson_internal!(@item $a $c $out $list (null) $($rest)*);
@@ -75,7 +79,8 @@ macro_rules! ijson_internal {
         $crate::ijson_unexpected!($unexpected)
     };
 
-    // Entries: the tokens of the key are collected up to the colon. A comma there, or a colon without a value, is misplaced.
+    // Entries: the tokens before the colon are the key. A comma before the colon, and a colon
+    // without a value, do not compile.
     (@object $a:ident $c:ident $out:lifetime $pairs:ident () ()) => {};
     (@object $a:ident $c:ident $out:lifetime $pairs:ident ($($key:tt)+) (: null $($rest:tt)*)) => {
         $crate::ijson_internal!(@pair $a $c $out $pairs ($($key)+) (null) $($rest)*);
@@ -142,13 +147,14 @@ macro_rules! ijson_internal {
     };
 }
 
-/// A hidden helper of `ijson!`: no rule accepts a token.
+/// A hidden helper of `ijson!` that rejects every token, to report a misplaced token.
 #[macro_export]
 macro_rules! ijson_unexpected {
     () => {};
 }
 
-/// A hidden helper of `ijson!`: the tokens after a colon must begin with an expression and a comma.
+/// A hidden helper of `ijson!` that rejects tokens after a colon unless they begin with an
+/// expression and a comma.
 #[macro_export]
 macro_rules! ijson_expect_expr_comma {
     ($value:expr, $($rest:tt)*) => {};

@@ -1,4 +1,4 @@
-//! Writes the JSON text of standard input to standard output, without white space.
+//! Writes the JSON text of standard input to standard output in compact form, without white space.
 //!
 //! The tests are in `src/tests`.
 #![tactic(auto)]
@@ -20,10 +20,10 @@ use std::{io, mem};
 #[cfg(test)]
 mod tests;
 
-/// Reads the rest of the input as JSON and writes its line to the output, which it does not flush.
+/// Reads the remaining input as JSON and writes its compact line to `output`, without flushing.
 ///
-/// Input is untrusted, so strings are hashed by `hasher`, which has a random seed; an error in its place counts as a failed read. The
-/// memory of strings and values is not freed.
+/// The input is untrusted: `hasher` has a random seed. If `hasher` is an error, the result is
+/// `CompactError::Read`. The memory of strings and values is not freed.
 fn compact_stream<R: Source, W: Write, S: BuildHasher + Drop>(
     alloc: Global,
     hasher: io::Result<S>,
@@ -32,10 +32,10 @@ fn compact_stream<R: Source, W: Write, S: BuildHasher + Drop>(
 ) -> Result<(), CompactError>
     requires source { R.failed input.old + 1 < 2 ^ 64 }
     requires sink { output.old.failed + 1 < 2 ^ 64 }
-    // The writer received the whole line, from the whole rest of the source.
+    // The complete line was written, and the source was read to its end.
     ensures done { OnOk result (WritesLine (R.left input.old) (R.left input.new)
         (W.contents output.old.inner) (W.contents output.new.inner)) }
-    // A failed write leaves a beginning of the line, and any other error leaves the writer unchanged.
+    // If the result is `Write`, a beginning of the line was written; for any other error, nothing.
     ensures beginning { result ≡ Err errors.Write
         → BeginsLine (R.left input.old) (W.contents output.old.inner) (W.contents output.new.inner) }
     ensures nothing { IfErr result (λ error. error ≢ errors.Write
@@ -49,7 +49,8 @@ fn compact_stream<R: Source, W: Write, S: BuildHasher + Drop>(
     };
     let mut cache = StringCache::new(alloc, hasher);
     let answer = compact_value(alloc, input, output, &mut cache);
-    // The process ends soon and frees its memory as a whole; freeing strings and values one by one would only take time.
+    // The process ends soon, which frees all memory. Freeing each string and value would only take
+    // time.
     mem::forget(cache);
     match answer {
         Ok(value) => {
@@ -60,7 +61,10 @@ fn compact_stream<R: Source, W: Write, S: BuildHasher + Drop>(
     }
 }
 
-/// Flushes the output once after `Ok`, and returns the result. A failed flush counts as a failed write.
+/// Flushes `output` if `answer` is `Ok`, and returns the result.
+///
+/// A failed flush is reported as `CompactError::Write`. If `answer` is `Err`, it is returned
+/// without a flush.
 fn flushed<W: Write>(
     answer: Result<(), CompactError>,
     output: &mut StreamSink<W>,

@@ -1,4 +1,4 @@
--- Interning strings in order.
+-- Lemmas about the cache after strings were interned in order.
 use Rattle.std.proofs.Common.{◌≡◌, ℕ, List, [], ◌∷◌, ◌++◌, map, refl, ap, sym, subst, ◌∙◌}
 use Rattle.std.proofs.lemmas.List.{append_assoc, append-nil}
 use Rattle.ijson_string.specs.Cache.{Texts, interned}
@@ -6,21 +6,21 @@ use Rattle.ijson_value.specs.Tree.{Tree, items_of, members_of}
 use Rattle.ijson_convert.specs.Interned.{all_interned, SomeInterned}
 use Rattle.ijson_convert.specs.TextsOf.{texts_of, items_texts, members_texts}
 
--- interning `xs ++ ys` is interning `xs` and then `ys`
+-- Interning `xs ++ ys` leaves the same cache as interning `xs` and then `ys`.
 pub both_interned : (xs ys : List (List ℕ)) (cache : Texts)
     → all_interned (xs ++ ys) cache ≡ all_interned ys (all_interned xs cache)
 both_interned [] ys cache = refl
 both_interned (x ∷ xs) ys cache = both_interned xs ys (interned x cache)
 
--- interning no string satisfies `SomeInterned`
+-- `SomeInterned` holds if the cache is unchanged, because zero strings were interned.
 pub none_interned : (texts : List (List ℕ)) (cache : Texts) → SomeInterned texts cache cache
 none_interned texts cache = record { done = []; left = texts; parts = refl; cache = refl }
 
--- interning all of the strings satisfies `SomeInterned`
+-- `SomeInterned` holds if all of the strings were interned.
 pub wholly_interned : (texts : List (List ℕ)) (old new : Texts) → new ≡ all_interned texts old → SomeInterned texts old new
 wholly_interned texts old new e = record { done = texts; left = []; parts = sym (append-nil texts); cache = e }
 
--- interning some first strings of `xs` is interning some first strings of `xs ++ ys`
+-- If some leading strings of `xs` were interned, so were some leading strings of `xs ++ ys`.
 pub some_before : (xs ys : List (List ℕ)) (old new : Texts) → SomeInterned xs old new → SomeInterned (xs ++ ys) old new
 some_before xs ys old new s = record {
   done = s.done;
@@ -29,7 +29,8 @@ some_before xs ys old new s = record {
   cache = s.cache;
 }
 
--- interning `xs` and some first strings of `ys` is interning some first strings of `xs ++ ys`
+-- If `xs` and then some leading strings of `ys` were interned, so were some leading strings of
+-- `xs ++ ys`.
 pub some_behind : (xs ys : List (List ℕ)) (old new : Texts) → SomeInterned ys (all_interned xs old) new
     → SomeInterned (xs ++ ys) old new
 some_behind xs ys old new s = record {
@@ -39,14 +40,14 @@ some_behind xs ys old new s = record {
   cache = s.cache ∙ sym (both_interned xs s.done old);
 }
 
--- ---- the strings of a list, those of each part after the other
+-- For elements of type `X`, the strings of one element (`each`) and of a list (`all`), in order.
 pub record Strings (X : Type 0) : Type 0 where
   pub each : X → List (List ℕ)
   pub all : List X → List (List ℕ)
   pub none : all [] ≡ []
   pub first : (x : X) (xs : List X) → all (x ∷ xs) ≡ each x ++ all xs
 
--- the strings of elements with the trees that `tree` gives
+-- The strings of elements whose trees are given by `tree`.
 abbrev pub element_strings : {X : Type 0} → (X → Tree) → Strings X
 element_strings tree = record {
   each = λ x. texts_of (tree x);
@@ -55,7 +56,7 @@ element_strings tree = record {
   first = λ _ _. refl;
 }
 
--- the strings of entries with the keys and trees that `pair` gives
+-- The keys and strings of entries whose keys and trees are given by `pair`.
 abbrev pub entry_strings : {X : Type 0} → (X → List ℕ × Tree) → Strings X
 entry_strings pair = record {
   each = λ x. (pair x).0 ∷ texts_of (pair x).1;
@@ -72,14 +73,16 @@ module _ {X : Type 0} (s : Strings X) where
       ∙ sym (append_assoc (s.each x) (s.all xs) (s.all ys)) ∙ ap (λ l. l ++ s.all ys) (sym (s.first x xs))
 
   module _ (done : List X) (x : X) (old middle new : Texts) (so_far : middle ≡ all_interned (s.all done) old) where
-    -- after interning the strings of `x`, the strings of `done ++ x ∷ []` are interned
+    -- If the strings of `done` and then of `x` were interned, so were the strings of
+    -- `done ++ x ∷ []`.
     pub one_interned : new ≡ all_interned (s.each x) middle → new ≡ all_interned (s.all (done ++ x ∷ [])) old
     one_interned n =
         n ∙ ap (all_interned (s.each x)) so_far ∙ sym (both_interned (s.all done) (s.each x) old)
         ∙ ap (λ l. all_interned (s.all done ++ l) old) (sym (s.first x [] ∙ ap (λ l. s.each x ++ l) s.none ∙ append-nil (s.each x)))
         ∙ ap (λ l. all_interned l old) (sym (strings_joined done (x ∷ [])))
 
-    -- after the strings of `done`, interning some first strings of `x` is interning some first strings of `xs`
+    -- If all strings of `done` and some leading strings of `x` were interned, so were some leading
+    -- strings of `xs`, where `xs` begins with `done` and `x`.
     pub one_begun : (left xs : List X) → done ++ x ∷ left ≡ xs → SomeInterned (s.each x) middle new → SomeInterned (s.all xs) old new
     one_begun left xs parts some =
         subst (λ l. SomeInterned l old new) (sym (strings_joined done (x ∷ left) ∙ ap (λ l. s.all done ++ l) (s.first x left))

@@ -1,4 +1,4 @@
--- Appending elements.
+-- Lemmas about appending converted elements to an array.
 use Rattle.std.proofs.Common.{◌≡◌, ◌<◌, ◌+◌, ℕ, suc, List, [], ◌∷◌, ◌++◌, length, map, get_or, take, drop, refl, ap, ap₂, sym, subst, ◌∙◌, append_assoc}
 use Rattle.std.proofs.lemmas.List.{map-append, take_more, take-append-drop}
 use Rattle.std.proofs.Math.Seq.{drop-cons}
@@ -12,7 +12,7 @@ use Rattle.ijson_convert.specs.private.Pushes.{Pushes}
 use Rattle.ijson_convert.specs.declared.convert_error.ConvertError.{ConvertError}
 use Rattle.ijson_convert.proofs.Interning.{both_interned, some_before, some_behind, strings_joined, element_strings, one_interned, one_begun}
 
--- the strings of elements with these trees
+-- The strings of an array with the trees `ts`.
 abbrev texts : List Tree → List (List ℕ)
 texts ts = items_texts (items_of ts)
 
@@ -20,7 +20,7 @@ joined : (ts us : List Tree) → texts (ts ++ us) ≡ texts ts ++ texts us
 joined = strings_joined (record { each = texts_of; all = texts; none = refl; first = λ _ _. refl })
 
 module _ {X : Type 0} {ts : List Tree} {old : List WellFormed} {before : Texts} where
-  -- if pushing `ts` fails, pushing `ts ++ us` fails with the same error
+  -- If pushing `ts` fails, pushing `ts ++ us` fails with the same error.
   pub first_fails : (us : List Tree) {new : List WellFormed} {after : Texts} {e : ConvertError}
       → Pushes {X = X} ts old new before after (Err e) → Pushes {X = X} (ts ++ us) old new before after (Err e)
   first_fails us {after = after} p = record {
@@ -34,7 +34,7 @@ module _ {X : Type 0} {ts : List Tree} {old : List WellFormed} {before : Texts} 
 
   module _ {us : List Tree} {mid new : List WellFormed} {between after : Texts} {x : X}
       (first : Pushes ts old mid before between (Ok x)) where
-    -- if pushing `ts` succeeds, pushing `ts ++ us` ends as pushing `us` does
+    -- If pushing `ts` succeeds, pushing `ts ++ us` has the result of pushing `us` afterwards.
     pub then_pushed : {result : Result X ConvertError} → Pushes us mid new between after result
         → Pushes (ts ++ us) old new before after result
     then_pushed {result = Ok y} p = record {
@@ -55,7 +55,7 @@ module _ {X : Type 0} {ts : List Tree} {old : List WellFormed} {before : Texts} 
       );
     }
 
--- a list is its first `i` elements, element `i` and the rest
+-- A list consists of its first `i` elements, element `i` and all later elements.
 pub split_at : {X : Type 0} (xs : List X) (i : ℕ) (x : X) → i < length xs → x ≡ get_or xs i x
     → take i xs ++ x ∷ drop (suc i) xs ≡ xs
 split_at xs i x h is =
@@ -64,7 +64,8 @@ split_at xs i x h is =
 
 module _ {X : Type 0} (tree : X → Tree) (xs : List X) (i : ℕ) (x : X) (within : i < length xs) (is : x ≡ get_or xs i x)
     (old middle new : Texts) (so_far : middle ≡ all_interned (items_texts (items_of (map tree (take i xs)))) old) where
-  -- after appending element `i`, the first `i + 1` elements are appended
+  -- If the first `i` elements are appended and element `i` is pushed, the first `i + 1` elements
+  -- are appended.
   pub item_pushed : (vs vs' : List WellFormed) (v : WellFormed) → map tree_of vs ≡ map tree (take i xs) → vs' ≡ vs ++ v ∷ []
       → v.tree ≡ tree x → new ≡ all_interned (texts_of (tree x)) middle
       → (map tree_of vs' ≡ map tree (take (i + 1) xs))
@@ -77,6 +78,6 @@ module _ {X : Type 0} (tree : X → Tree) (xs : List X) (i : ℕ) (x : X) (withi
             ∙ ap (λ ys. all_interned (items_texts (items_of (map tree ys))) old) (sym more),
       )
 
-  -- a beginning of the next element's strings is interned
+  -- If some leading strings of element `i` were interned, so were some leading strings of the list.
   pub item_begun : SomeInterned (texts_of (tree x)) middle new → SomeInterned (items_texts (items_of (map tree xs))) old new
   item_begun = one_begun (element_strings tree) (take i xs) x old middle new so_far (drop (suc i) xs) xs (split_at xs i x within is)

@@ -1,4 +1,4 @@
--- Reading a number as an integer.
+-- Lemmas for reading integers from numbers and for creating numbers from integers.
 use Rattle.std.proofs.Common.{◌≡◌, ◌⊎◌, inr, ◌<◌, ◌≤◌, ◌^◌, ℕ, refl, sym, subst, ◌∙◌, arith}
 use mir.Val.{hbits}
 use Rattle.std.specs.Prelude.{ℤ, pos, FitsSigned}
@@ -24,12 +24,12 @@ use Rattle.ijson_convert.specs.laws.Whole.{widened}
 use Rattle.ijson_number.specs.laws.IntegerValues.{integer_value}
 use Rattle.ijson_convert.specs.laws.Integers.{signed_is, unsigned_is}
 
--- two numbers of the same value are equal
+-- Two numbers with the same integer value are equal.
 pub has_same : (a n : Decimal) (z : ℤ) → HasValue a z → HasValue n z → number_cmp a n ≡ Equal
 has_same a n z h k =
     number_cmp_total.congr a (integer z) n (tests_equal _ h) ∙ tied_back number_cmp_total n (integer z) (tests_equal _ k)
 
--- ---- a value made of an integer has its tree
+-- If a tree is the number `z` without a decimal point, it is `integer_tree z`.
 signed_made : (z : ℤ) (t : Tree) → IsWellFormed t → FitsSigned w64 z → IsIntegerTree t z → t ≡ integer_tree z
 signed_made z (number n) w i h = signed_is (record { decimal = n; is_num = w }) z i h
 signed_made z _ w i h = absurd h
@@ -46,12 +46,12 @@ unsigned_made m _ w i h = absurd h
 pub unsigned_tree : (m : ℕ) (v : WellFormed) → m < 2 ^ 64 → IsIntegerTree v.tree (pos m) → v.tree ≡ integer_tree (pos m)
 unsigned_tree m v i h = unsigned_made m v.tree v.well_formed i h
 
--- ---- an integer that a value has means the same
+-- If the value of a tree is the integer `z`, the tree means the same as `integer_tree z`.
 integer_same : (z : ℤ) (t : Tree) → HasInteger t z → Same (integer_tree z) t
 integer_same z (number n) h = has_same (integer_number z) n z (integer_value z) h
 integer_same z _ h = absurd h
 
--- even after it is restored from its bits
+-- If a tree has the value `z`, it means the same as the integer restored from the bits of `z`.
 pub signed_same : (width : Width) (z y : ℤ) (t : Tree) → HasInteger t y → FitsSigned width z → y ≡ z
     → Same (integer_tree (cast_signed width (cast_unsigned width z))) t
 signed_same width z y t h i e = subst (λ x. Same (integer_tree x) t) (e ∙ sym (to_z-of_z width z i)) (integer_same y t h)
@@ -59,7 +59,8 @@ signed_same width z y t h i e = subst (λ x. Same (integer_tree x) t) (e ∙ sym
 pub unsigned_same : (m k : ℕ) (t : Tree) → HasInteger t (pos k) → m ≡ k → Same (integer_tree (pos m)) t
 unsigned_same m k t h e = subst (λ j. Same (integer_tree (pos j)) t) (sym e) (integer_same (pos k) t h)
 
--- ---- a value with an integer out of range is rejected
+-- If the value of a tree is an integer out of the type's range, the tree is rejected with
+-- `OutOfRange`.
 signed_out : (width : Width) (z : ℤ) (t : Tree) → IsWellFormed t → HasInteger t z → (FitsSigned width z → ⊥)
     → SignedRefused width t OutOfRange
 signed_out width z (number n) w h past =
@@ -82,7 +83,7 @@ pub unsigned_past : (limit m : ℕ) (v : WellFormed) → HasInteger v.tree (pos 
     → (OutOfRange ≡ Memory) ⊎ UnsignedRefused limit v.tree OutOfRange
 unsigned_past limit m v h past = inr (unsigned_out limit m v.tree v.well_formed h past)
 
--- ---- and so is a tree that is no integer of the type
+-- If a tree is not a signed integer of this width, it is rejected with the error of `IsNoInteger`.
 pub signed_none : (width : Width) (t : Tree) (e : ConvertError) → ((z : ℤ) → FitsSigned width z → HasInteger t z → ⊥)
     → IsNoInteger t e → (e ≡ Memory) ⊎ SignedRefused width t e
 signed_none width (number n) e none is = inr (is, none)

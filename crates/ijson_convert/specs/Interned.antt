@@ -1,13 +1,13 @@
--- Interning strings in order: each of more than 7 bytes is added to the cache.
+-- The cache after strings were interned in order. Strings of up to 7 bytes do not enter the cache.
 use Rattle.std.specs.Prelude.{◌≡◌, ℕ, List, [], ◌∷◌, ◌++◌}
 use Rattle.ijson_string.specs.Cache.{Texts, interned}
 
--- the cache with each of the strings
+-- The cache after all strings of the list were interned, in order.
 abbrev pub all_interned : List (List ℕ) → Texts → Texts
 all_interned [] cache = cache
 all_interned (text ∷ more) cache = all_interned more (interned text cache)
 
--- a prefix of the strings was interned, and nothing else
+-- Holds if some leading strings of `texts` were interned, and the cache is otherwise unchanged.
 pub record SomeInterned (texts : List (List ℕ)) (old new : Texts) : Type 0 where
   pub done : List (List ℕ)
   pub left : List (List ℕ)

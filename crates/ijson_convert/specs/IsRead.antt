@@ -1,4 +1,4 @@
--- A tree that is rejected for no reason.
+-- Holds if the tree is accepted: no error rejects it.
 use Rattle.ijson_value.specs.Tree.{Tree}
 use Rattle.ijson_convert.specs.declared.convert_error.ConvertError.{ConvertError}
 

@@ -1,4 +1,4 @@
--- A list as a tree: the trees of its elements, in order.
+-- The tree of a list: an array of the trees of its elements, in order.
 use Rattle.std.specs.Prelude.{List, map}
 use Rattle.ijson_value.specs.Tree.{Tree, array, items_of}
 

@@ -1,4 +1,4 @@
--- A map from strings as a tree: its entries in order.
+-- `map_tree` is the tree of a map with string keys: an object with the map's entries in order.
 use Rattle.std.specs.Prelude.{ℕ, List, map, String, string_bytes}
 use Rattle.std.specs.declared.alloc.Global.{Global}
 use Rattle.ijson_value.specs.Tree.{Tree, object, members_of}

@@ -1,4 +1,4 @@
--- An option as a tree: null for None.
+-- The tree of an option: null for `None`, and the content's tree for `Some`.
 use Rattle.std.specs.Prelude.{Option, None, Some}
 use Rattle.ijson_value.specs.Tree.{Tree, null}
 

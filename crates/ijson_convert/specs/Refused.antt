@@ -1,5 +1,7 @@
--- Why a tree is not read as a Rust value, by type: another kind is the wrong kind, a number that is not whole or not in range is out of
--- range, and a list or a map fails for its first rejected part.
+-- For each Rust type, the error with which a tree is rejected.
+--
+-- A tree of another kind is rejected with `WrongKind`, and a number that is not an integer in range
+-- with `OutOfRange`. A list or map is rejected with the error of its first rejected part.
 use Rattle.std.specs.Prelude.{◌≡◌, ◌⊎◌, ◌<◌, ℕ, ℤ, pos, FitsSigned}
 use Rattle.std.specs.Int.{Width}
 use Rattle.ijson_number.specs.Integers.{HasValue}
@@ -16,13 +18,13 @@ abbrev pub TextRefused : Tree → ConvertError → Type 0
 TextRefused (string s) e = ⊥
 TextRefused _ e = e ≡ WrongKind
 
--- an integer with a sign, of this width
+-- Holds if reading a signed integer of this width from the tree fails with error `e`.
 abbrev pub SignedRefused : Width → Tree → ConvertError → Type 0
 SignedRefused width (number n) e =
     (e ≡ OutOfRange) × ((z : ℤ) → FitsSigned width z → HasValue n z → ⊥)
 SignedRefused width _ e = e ≡ WrongKind
 
--- an integer without a sign, below this limit
+-- Holds if reading an unsigned integer below `limit` from the tree fails with error `e`.
 abbrev pub UnsignedRefused : ℕ → Tree → ConvertError → Type 0
 UnsignedRefused limit (number n) e =
     (e ≡ OutOfRange) × ((m : ℕ) → m < limit → HasValue n (pos m) → ⊥)
@@ -32,7 +34,7 @@ abbrev pub OptionRefused : (Tree → ConvertError → Type 0) → Tree → Conve
 OptionRefused Refused null e = ⊥
 OptionRefused Refused t e = Refused t e
 
--- the first rejected element
+-- Holds if an element is rejected with error `e`, and all elements before it are accepted.
 abbrev pub FirstRefused : (Tree → ConvertError → Type 0) → Items → ConvertError → Type 0
 FirstRefused Refused no_items e = ⊥
 FirstRefused Refused (item t more) e =
@@ -42,7 +44,7 @@ abbrev pub ListRefused : (Tree → ConvertError → Type 0) → Tree → Convert
 ListRefused Refused (array items) e = FirstRefused Refused items e
 ListRefused Refused _ e = e ≡ WrongKind
 
--- the values of members, as the elements of a list
+-- The values of the members, as elements in the same order.
 abbrev pub member_values : Members → Items
 member_values no_members = no_items
 member_values (member k t more) = item t (member_values more)

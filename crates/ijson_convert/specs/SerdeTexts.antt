@@ -1,4 +1,5 @@
--- The strings and keys of a value of `serde_json`, in order: a key comes before the strings of its value.
+-- `serde_texts` lists the strings and keys of a `serde_json` value, in order. A key comes before
+-- the strings of its value.
 use Rattle.std.specs.Prelude.{ℕ, List, [], ◌∷◌, ◌++◌}
 use Rattle.serde_json.specs.Data.{Data, null, boolean, number, string, array, object, Items, no_items, item, Members, no_members, member}
 

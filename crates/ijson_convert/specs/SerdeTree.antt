@@ -1,5 +1,8 @@
--- A value of `serde_json` as a tree: null, Booleans, numbers that fit an i64 or a u64 (without a decimal point), strings, lists, and
--- entries in the order of their keys. A value that contains any other number has no tree.
+-- `SerdeTree` relates a `serde_json` value to its JSON tree.
+--
+-- An integer in the range of `i64` or `u64` has a tree without a decimal point. A value that
+-- contains any other number does not have a tree. Entries are in the order of the `serde_json` map,
+-- which is sorted by key.
 use Rattle.std.specs.Prelude.{◌≡◌, ◌<◌, ◌^◌, pos, ⊤, FitsSigned}
 use Rattle.std.specs.Int.{w64}
 use Rattle.serde_json.specs.Data as serde
@@ -10,7 +13,7 @@ use Rattle.ijson_value.specs.Tree.{Tree, null, boolean, number, string, array, o
 use Rattle.ijson_value.specs.WellFormed.{IsWellFormed}
 use Rattle.ijson_convert.specs.IntegerTree.{integer_number}
 
--- a number of `serde_json` as a number
+-- Holds if `n` is the JSON number of the `serde_json` integer. A float does not have a JSON number.
 abbrev pub SerdeNumber : Num → Decimal → Type 0
 SerdeNumber (serde.unsigned m) n = (m < 2 ^ 64) × (n ≡ integer_number (pos m))
 SerdeNumber (serde.negative z) n = FitsSigned w64 z × (n ≡ integer_number z)
@@ -36,14 +39,14 @@ abbrev mutual
   SerdeMembers (serde.member k d ms) (member j t ps) = (k ≡ j) × SerdeTree d t × SerdeMembers ms ps
   SerdeMembers _ _ = ⊥
 
--- the value has no tree
+-- Holds if the `serde_json` value does not have a JSON tree.
 abbrev pub HasNoTree : Data → Type 0
 HasNoTree d = (t : Tree) → SerdeTree d t → ⊥
 
--- the value has a tree that means the same as this one
+-- Holds if the JSON tree of the value exists, is well-formed and means the same as `u`.
 abbrev pub SerdeMeans : Data → Tree → Type 0
 SerdeMeans d u = (t : Tree) × IsWellFormed t × SerdeTree d t × Same t u
 
--- no value has such a tree
+-- Holds if no `serde_json` value has a JSON tree that means the same as `u`.
 abbrev pub NoSerdeMeans : Tree → Type 0
 NoSerdeMeans u = (d : Data) → SerdeMeans d u → ⊥

@@ -1,4 +1,5 @@
--- The strings and keys of a tree, in order: a key comes before the strings of its value.
+-- `texts_of` lists the strings and keys of a tree, in order. A key comes before its value's
+-- strings.
 use Rattle.std.specs.Prelude.{ℕ, List, [], ◌∷◌, ◌++◌}
 use Rattle.ijson_value.specs.Tree.{Tree, null, boolean, number, string, array, object, Items, no_items, item, Members, no_members, member}
 

@@ -1,4 +1,4 @@
-//! Errors of conversions.
+//! The errors of conversions.
 ghost use Rattle.std.specs.Prelude.{◌≡◌};
 ghost use Rattle.ijson_convert.specs.declared.convert_error.ConvertError.TheVariants.{Memory};
 
@@ -8,19 +8,19 @@ use ijson_value::object::RefusedPair;
 use std::alloc::AllocError;
 use thiserror::Error;
 
-/// Why a value was not converted.
+/// The reason why a conversion failed.
 #[derive(Clone, Copy, PartialEq, Eq, Debug, Drop, Error)]
 pub enum ConvertError {
-    /// The JSON value is of another kind than the Rust type.
+    /// The kind of the JSON value does not match the Rust type.
     #[error("the value is of another kind")]
     WrongKind,
-    /// The number is not whole, or out of the range of the integer type.
+    /// The number is not an integer in the range of the Rust type.
     #[error("not a whole number in the range of the type")]
     OutOfRange,
-    /// The number is neither an `i64` nor a `u64`, or it is a float of `serde_json`.
+    /// The number is not an integer in the range of `i64` or `u64`, or is a float of `serde_json`.
     #[error("a number that is neither an i64 nor a u64")]
     Number,
-    /// An allocation failed, or the capacity of an object would exceed 2^56.
+    /// An allocation failed, or the capacity of an object would exceed `2 ^ 56`.
     #[error("out of memory")]
     Memory,
 }
@@ -54,7 +54,7 @@ impl From<RefusedPair> for ConvertError {
     }
 }
 
-/// Converts to `Memory`, even if an object would be too large.
+/// Converts to `Memory`, also if the requested capacity of an object was too large.
 impl From<ReserveError> for ConvertError {
     ghost from_gives = { λ _ e. e ≡ Memory };
 

@@ -11,13 +11,16 @@ use crate::convert_error::ConvertError;
 use ijson_value::value::IValue;
 use std::alloc::Global;
 
-/// A type that can be read from a JSON value, and has a tree that means the same.
+/// A type that can be read from a JSON value.
 ///
-/// It is implemented for `bool`, the integers of up to 64 bits, `String` and `IString`; and, if `T` implements it, for `Option<T>` (null is
-/// `None`), `Vec<T>`, `BTreeMap<String, T>` and `HashMap<String, T>`. A number with a decimal point is an integer if its value is whole:
-/// `2.0` is 2. Null is the outermost `None`: an `Option<Option<u8>>` is then `None`, never `Some(None)`.
+/// Implemented for `bool`, the integers of up to 64 bits, `String` and `IString`. If `T` implements
+/// `FromIValue`, so do `Option<T>`, `Vec<T>`, `BTreeMap<String, T>` and `HashMap<String, T>`.
+///
+/// A number with a decimal point can be read as an integer if its value is an integer: `2.0` is 2.
+/// Null is read as the outermost `None`: as an `Option<Option<u8>>`, null is `None`, never
+/// `Some(None)`.
 pub trait FromIValue: Sized {
-    /// The tree of a value.
+    /// The JSON tree of a Rust value.
     ghost tree: { Self → Tree };
 
     ghost use Rattle.std.specs.Prelude.{◌≡◌, ◌⊎◌, IfOk, IfErr};
@@ -27,34 +30,39 @@ pub trait FromIValue: Sized {
     ghost use Rattle.ijson_convert.specs.declared.convert_error.ConvertError.{ConvertError};
     ghost use Rattle.ijson_convert.specs.declared.convert_error.ConvertError.TheVariants.{Memory};
 
-    /// Why a tree is rejected: the first reason in order.
+    /// Holds if a tree is rejected with this error. The first rejected part in order decides the
+    /// error.
     ghost refused: { Tree → ConvertError → Type 0 };
 
-    /// A property of the integers in each value: in a law, an integer type contains any whole number.
+    /// Holds if each integer in the value is in the range of its Rust type.
+    ///
+    /// The laws need this property because they model each integer type by all integers.
     ghost in_range: { Self → Type 0 };
 
-    /// A property of each value read: an optional part that has the tree null is `None`.
+    /// Holds if each `Option` in the value is `None` when its tree is null.
     ghost null_is_none: { Self → Type 0 };
 
-    /// Reads a JSON value. Strings are copied.
+    /// Reads a JSON value. A `String` is copied, an `IString` is shared.
     ///
     /// # Errors
     ///
-    /// Fails if the tree is rejected, otherwise only with `Memory`. The partial result is dropped.
+    /// Fails if the tree of `value` is rejected, and with `Memory` if an allocation fails. The
+    /// partial result is dropped.
     fn from_ivalue(alloc: Global, value: &IValue) -> Result<Self, ConvertError>
         ensures same { IfOk result (λ x. Same (tree x) value.now.tree) }
         ensures read { IfOk result (λ x. IsRead refused value.now.tree) }
         ensures none { IfOk result (λ x. null_is_none x) }
         ensures refused { IfErr result (λ e. (e ≡ Memory) ⊎ refused value.now.tree e) };
 
-    /// Only a tree that no value has is rejected.
+    /// A rejected tree does not mean the same as the tree of any `Self`.
     ghost complete: { (x : Self) (t : Tree) (e : ConvertError) → in_range x → IsWellFormed (tree x)
         → IsWellFormed t → Same (tree x) t → refused t e → ⊥ };
 }
 
 /// Reads a JSON value as a `T`.
 ///
-/// Strings are copied. For an `Option`, null is `None`.
+/// A `String` is copied, an `IString` is shared. Null is read as the outermost `None` of an
+/// `Option`.
 ///
 /// ```
 /// let ids: Vec<u64> = from_value(alloc, &value)?; // of [1,2.0]; [1,"2"] is WrongKind, [1,2.5] OutOfRange
@@ -62,11 +70,13 @@ pub trait FromIValue: Sized {
 ///
 /// # Errors
 ///
-/// Fails if no `T` has the tree of the value, with the first reason in order, otherwise only with `Memory`.
+/// Fails with `WrongKind` or `OutOfRange`, for the first part in order that cannot be read, and
+/// with `Memory` if an allocation fails.
 ///
 /// # Cost
 ///
-/// Linear in the value; n log n in the entries of a `BTreeMap`, plus comparing keys. The keys of a `HashMap` are hashed.
+/// Linear in the value. The entries of a `BTreeMap` take n log n time, plus the comparisons of
+/// keys. The keys of a `HashMap` are hashed.
 pub fn from_value<T: FromIValue>(alloc: Global, value: &IValue) -> Result<T, ConvertError>
     ensures same { IfOk result (λ x. Same (T.FromIValue.tree x) value.now.tree) }
     ensures read { IfOk result (λ x. IsRead T.FromIValue.refused value.now.tree) }

@@ -14,7 +14,9 @@ use crate::from_ivalue::FromIValue;
 use ijson_value::value::IValue;
 use std::alloc::Global;
 
-/// Returns why a value is not an integer: another kind, or a number out of range or with a fraction.
+/// Returns the error for a value that is not an integer of the requested type.
+///
+/// `OutOfRange` is returned for a number, `WrongKind` for any other kind.
 fn why_no_integer(value: &IValue) -> ConvertError
     ensures { IsNoInteger value.now.tree result }
 {
@@ -25,11 +27,12 @@ fn why_no_integer(value: &IValue) -> ConvertError
     }
 }
 
-/// Reads a whole number in range, with or without a decimal point.
+/// Reads an integer, with or without a decimal point.
 ///
 /// # Errors
 ///
-/// Returns `WrongKind` for another kind, and `OutOfRange` for another number.
+/// Returns `OutOfRange` if the number is not an integer from `-2 ^ 7` to `2 ^ 7 - 1`, and
+/// `WrongKind` if `value` is not a number.
 impl FromIValue for i8 {
     ghost tree = { λ z. integer_tree z };
 
@@ -52,11 +55,12 @@ impl FromIValue for i8 {
     ghost complete = { signed_complete w8 wide_8 };
 }
 
-/// Reads a whole number in range, with or without a decimal point.
+/// Reads an integer, with or without a decimal point.
 ///
 /// # Errors
 ///
-/// Returns `WrongKind` for another kind, and `OutOfRange` for another number.
+/// Returns `OutOfRange` if the number is not an integer from `-2 ^ 15` to `2 ^ 15 - 1`, and
+/// `WrongKind` if `value` is not a number.
 impl FromIValue for i16 {
     ghost tree = { λ z. integer_tree z };
 
@@ -79,11 +83,12 @@ impl FromIValue for i16 {
     ghost complete = { signed_complete w16 wide_16 };
 }
 
-/// Reads a whole number in range, with or without a decimal point.
+/// Reads an integer, with or without a decimal point.
 ///
 /// # Errors
 ///
-/// Returns `WrongKind` for another kind, and `OutOfRange` for another number.
+/// Returns `OutOfRange` if the number is not an integer from `-2 ^ 31` to `2 ^ 31 - 1`, and
+/// `WrongKind` if `value` is not a number.
 impl FromIValue for i32 {
     ghost tree = { λ z. integer_tree z };
 
@@ -103,11 +108,12 @@ impl FromIValue for i32 {
     ghost complete = { signed_complete w32 wide_32 };
 }
 
-/// Reads a whole number in range, with or without a decimal point.
+/// Reads an integer, with or without a decimal point.
 ///
 /// # Errors
 ///
-/// Returns `WrongKind` for another kind, and `OutOfRange` for another number.
+/// Returns `OutOfRange` if the number is not an integer from `-2 ^ 63` to `2 ^ 63 - 1`, and
+/// `WrongKind` if `value` is not a number.
 impl FromIValue for i64 {
     ghost tree = { λ z. integer_tree z };
 
@@ -127,11 +133,12 @@ impl FromIValue for i64 {
     ghost complete = { signed_complete w64 wide_64 };
 }
 
-/// Reads a whole number in range, with or without a decimal point.
+/// Reads an integer, with or without a decimal point.
 ///
 /// # Errors
 ///
-/// Returns `WrongKind` for another kind, and `OutOfRange` for another number.
+/// Returns `OutOfRange` if the number is not an integer from `-2 ^ 63` to `2 ^ 63 - 1`, and
+/// `WrongKind` if `value` is not a number.
 impl FromIValue for isize {
     ghost tree = { λ z. integer_tree z };
 
@@ -151,11 +158,12 @@ impl FromIValue for isize {
     ghost complete = { signed_complete w64 wide_64 };
 }
 
-/// Reads a whole number in range, with or without a decimal point.
+/// Reads an integer, with or without a decimal point.
 ///
 /// # Errors
 ///
-/// Returns `WrongKind` for another kind, and `OutOfRange` for another number.
+/// Returns `OutOfRange` if the number is not an integer from 0 to `2 ^ 8 - 1`, and `WrongKind` if
+/// `value` is not a number.
 impl FromIValue for u8 {
     ghost tree = { λ m. integer_tree (pos m) };
 
@@ -178,11 +186,12 @@ impl FromIValue for u8 {
     ghost complete = { unsigned_complete (2 ^ 8) below_8 };
 }
 
-/// Reads a whole number in range, with or without a decimal point.
+/// Reads an integer, with or without a decimal point.
 ///
 /// # Errors
 ///
-/// Returns `WrongKind` for another kind, and `OutOfRange` for another number.
+/// Returns `OutOfRange` if the number is not an integer from 0 to `2 ^ 16 - 1`, and `WrongKind` if
+/// `value` is not a number.
 impl FromIValue for u16 {
     ghost tree = { λ m. integer_tree (pos m) };
 
@@ -205,11 +214,12 @@ impl FromIValue for u16 {
     ghost complete = { unsigned_complete (2 ^ 16) below_16 };
 }
 
-/// Reads a whole number in range, with or without a decimal point.
+/// Reads an integer, with or without a decimal point.
 ///
 /// # Errors
 ///
-/// Returns `WrongKind` for another kind, and `OutOfRange` for another number.
+/// Returns `OutOfRange` if the number is not an integer from 0 to `2 ^ 32 - 1`, and `WrongKind` if
+/// `value` is not a number.
 impl FromIValue for u32 {
     ghost tree = { λ m. integer_tree (pos m) };
 
@@ -229,11 +239,12 @@ impl FromIValue for u32 {
     ghost complete = { unsigned_complete (2 ^ 32) below_32 };
 }
 
-/// Reads a whole number in range, with or without a decimal point.
+/// Reads an integer, with or without a decimal point.
 ///
 /// # Errors
 ///
-/// Returns `WrongKind` for another kind, and `OutOfRange` for another number.
+/// Returns `OutOfRange` if the number is not an integer from 0 to `2 ^ 64 - 1`, and `WrongKind` if
+/// `value` is not a number.
 impl FromIValue for u64 {
     ghost tree = { λ m. integer_tree (pos m) };
 
@@ -253,11 +264,12 @@ impl FromIValue for u64 {
     ghost complete = { unsigned_complete (2 ^ 64) below_64 };
 }
 
-/// Reads a whole number in range, with or without a decimal point.
+/// Reads an integer, with or without a decimal point.
 ///
 /// # Errors
 ///
-/// Returns `WrongKind` for another kind, and `OutOfRange` for another number.
+/// Returns `OutOfRange` if the number is not an integer from 0 to `2 ^ 64 - 1`, and `WrongKind` if
+/// `value` is not a number.
 impl FromIValue for usize {
     ghost tree = { λ m. integer_tree (pos m) };
 

@@ -1,6 +1,7 @@
 //! Conversions between Rust values and JSON values.
 //!
-//! The tests are in `ijson/src/tests` (`conversions`, `serde`, `errors`, and failed allocations in `refusals`).
+//! The tests are in `ijson/src/tests`: `conversions`, `serde`, `errors`, and `refusals` for failed
+//! allocations.
 #![tactic(auto)]
 
 mod convert_error;

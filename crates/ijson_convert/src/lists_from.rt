@@ -9,7 +9,7 @@ use crate::from_ivalue::FromIValue;
 use ijson_value::value::{DestructuredRef, IValue};
 use std::alloc::Global;
 
-/// Reads an array, element by element. The list is allocated once.
+/// Reads the elements of an array in order. The list is allocated once.
 impl<T: FromIValue + Drop> FromIValue for Vec<T> {
     ghost tree = { λ list. list_tree T.FromIValue.tree list.items };
 

@@ -14,7 +14,7 @@ use ijson_value::value::IValue;
 use std::alloc::Global;
 use std::hash::BuildHasher;
 
-/// Returns the elements as an array, which is allocated once.
+/// Converts `items` to an array, which is allocated once.
 fn array_of<T: ToIValue, S: BuildHasher>(
     alloc: Global,
     cache: &mut StringCache<S>,
@@ -36,7 +36,7 @@ fn array_of<T: ToIValue, S: BuildHasher>(
     Ok(array)
 }
 
-/// Converts to an array of the converted elements, which is allocated once.
+/// Converts the elements to an array, which is allocated once.
 impl<T: ToIValue> ToIValue for &[T] {
     ghost tree = { λ items. list_tree T.ToIValue.tree items.now };
 
@@ -50,7 +50,7 @@ impl<T: ToIValue> ToIValue for &[T] {
     }
 }
 
-/// Converts like the slice of its elements.
+/// Converts the elements to an array, which is allocated once.
 impl<T: ToIValue, const N: usize> ToIValue for [T; N] {
     ghost tree = { λ items. list_tree T.ToIValue.tree items };
 
@@ -63,7 +63,7 @@ impl<T: ToIValue, const N: usize> ToIValue for [T; N] {
     }
 }
 
-/// Converts like the slice of its elements.
+/// Converts the elements to an array, which is allocated once.
 impl<T: ToIValue> ToIValue for Vec<T> {
     ghost tree = { λ list. list_tree T.ToIValue.tree list.items };
 

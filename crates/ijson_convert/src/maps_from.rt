@@ -11,11 +11,11 @@ use ijson_value::value::{DestructuredRef, IValue};
 use std::alloc::Global;
 use std::collections::{BTreeMap, HashMap};
 
-/// Reads an object, value by value. Its keys are copied, and its order is lost.
+/// Reads the values of an object in order. The keys are copied and sorted.
 ///
 /// # Cost
 ///
-/// The entries of each object are inserted into a sorted map: n log n time, plus comparing keys.
+/// The entries are inserted into a sorted map, in n log n time plus the comparisons of keys.
 impl<T: FromIValue + Drop> FromIValue for BTreeMap<String, T> {
     ghost tree = { λ map. map_tree T.FromIValue.tree map.entries };
 
@@ -44,13 +44,14 @@ impl<T: FromIValue + Drop> FromIValue for BTreeMap<String, T> {
         T.FromIValue.in_range T.FromIValue.complete map.entries };
 }
 
-/// Reads an object, value by value. Its keys are copied, and its order is lost.
+/// Reads the values of an object in order. The keys are copied.
 ///
-/// The map has std's hasher with a fixed seed. If strangers choose the keys, read a `BTreeMap`.
+/// The map does not keep the order of the object. Its hasher is std's, with a fixed seed: for
+/// untrusted keys, read a `BTreeMap`.
 ///
 /// # Cost
 ///
-/// Room for the entries of each object is reserved first. Then each key is hashed and inserted.
+/// Reserves capacity for all entries, then hashes and inserts each key.
 impl<T: FromIValue + Drop> FromIValue for HashMap<String, T> {
     ghost tree = { λ map. map_tree T.FromIValue.tree map.entries };
 

@@ -19,7 +19,7 @@ use std::alloc::Global;
 use std::collections::BTreeMap;
 use std::hash::BuildHasher;
 
-/// Interns the key and converts `x`.
+/// Interns `key` and converts `x`.
 fn pair_of<T: ToIValue, S: BuildHasher>(
     alloc: Global,
     cache: &mut StringCache<S>,
@@ -44,10 +44,10 @@ fn pair_of<T: ToIValue, S: BuildHasher>(
     }
 }
 
-/// Creates an object of the `count` entries of a map, in the order of `entries`.
+/// Creates an object from the `count` entries of a map, in the order of `entries`.
 ///
-/// Its capacity is `count`. The entries are collected in a list of that capacity, which is allocated first, and the object is built from it
-/// as by `from_pairs`.
+/// The capacity of the object is `count`. The entries are first collected in a list, which is
+/// allocated once, and `from_pairs` then builds the object.
 fn object_of<'a, T: ToIValue + 'a, S: BuildHasher, I: Iterator<Item = (&'a String, &'a T)> + Drop>(
     alloc: Global,
     cache: &mut StringCache<S>,
@@ -78,7 +78,7 @@ fn object_of<'a, T: ToIValue + 'a, S: BuildHasher, I: Iterator<Item = (&'a Strin
     Ok(IValue::from(object))
 }
 
-/// Converts to an object in the order of the keys, whose capacity is their count.
+/// Converts to an object, in the order of the keys, without spare capacity.
 impl<T: ToIValue> ToIValue for BTreeMap<String, T> {
     ghost tree = { λ map. map_tree T.ToIValue.tree map.entries };
 
@@ -91,7 +91,7 @@ impl<T: ToIValue> ToIValue for BTreeMap<String, T> {
     }
 }
 
-/// Converts to an object in the order of the map, whose capacity is the number of its entries.
+/// Converts to an object, in the order of the map, without spare capacity.
 impl<T: ToIValue> ToIValue for IndexMap<String, T> {
     ghost tree = { λ map. map_tree T.ToIValue.tree map.entries };
 

@@ -32,7 +32,7 @@ impl FromIValue for bool {
     ghost complete = { bool_complete };
 }
 
-/// Reads and copies a string.
+/// Copies a string.
 impl FromIValue for String {
     ghost tree = { λ s. string (string_bytes s) };
 
@@ -52,7 +52,7 @@ impl FromIValue for String {
     ghost complete = { λ s. text_complete (string_bytes s) };
 }
 
-/// Reads a string, which is shared with the value.
+/// Shares a string with `value`.
 impl FromIValue for IString {
     ghost tree = { λ s. string s };
 
@@ -72,7 +72,7 @@ impl FromIValue for IString {
     ghost complete = { text_complete };
 }
 
-/// Reads null as `None`, even if a `T` could be read from null too.
+/// Reads null as `None`, also if a `T` can be read from null.
 impl<T: FromIValue> FromIValue for Option<T> {
     ghost tree = { option_tree T.FromIValue.tree };
 

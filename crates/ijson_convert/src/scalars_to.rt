@@ -23,7 +23,7 @@ impl ToIValue for bool {
     }
 }
 
-/// Interns a string.
+/// Interns the string in `cache`.
 impl ToIValue for &str {
     ghost tree = { λ s. string s.now };
 
@@ -37,7 +37,7 @@ impl ToIValue for &str {
     }
 }
 
-/// Interns a string.
+/// Interns the string in `cache`.
 impl ToIValue for String {
     ghost tree = { λ s. string (string_bytes s) };
 
@@ -50,7 +50,7 @@ impl ToIValue for String {
     }
 }
 
-/// Converts the content of `Some`, and `None` to null.
+/// Converts `None` to null, and `Some` to the JSON value of its content.
 impl<T: ToIValue> ToIValue for Option<T> {
     ghost tree = { option_tree T.ToIValue.tree };
 

@@ -1,4 +1,4 @@
-//! Conversions between the values, maps and numbers of `serde_json` and JSON values, objects and numbers.
+//! Conversions between JSON values and the values, maps and numbers of `serde_json`.
 ghost use Rattle.std.specs.Prelude.{◌≡◌, ◌⊎◌, OnOk, OnErr, IfOk, IfErr};
 ghost use Rattle.serde_json.specs.Data.{array as data_array, object as data_object, number as data_number};
 ghost use Rattle.serde_json.specs.View.{view, number_view, items_view, members_view};
@@ -20,11 +20,13 @@ use serde_json::{Map, Number, Value};
 use std::alloc::Global;
 use std::hash::BuildHasher;
 
-/// Converts a `serde_json` integer to a number without a decimal point. Does not allocate.
+/// Converts an integer of `serde_json` to a number without a decimal point.
+///
+/// Does not allocate.
 ///
 /// # Errors
 ///
-/// Returns `Number` for a float of `serde_json`, whatever its value.
+/// Returns `Number` for any float of `serde_json`.
 #[tactic(auto, using(crate::proofs::serde_trees::SerdeNumbers::numbers_here))]
 pub fn from_serde_number(number: &Number) -> Result<INumber, ConvertError>
     ensures number { IfOk result (λ made. SerdeNumber (number_view number.now) made.decimal) }
@@ -40,13 +42,13 @@ pub fn from_serde_number(number: &Number) -> Result<INumber, ConvertError>
     }
 }
 
-/// Converts a number to one of `serde_json` with its value; the decimal point is lost.
+/// Converts a number to a number of `serde_json` with the same value.
 ///
-/// Does not allocate.
+/// The result does not record whether the number had a decimal point. Does not allocate.
 ///
 /// # Errors
 ///
-/// Returns `Number` if the value is neither an `i64` nor a `u64`.
+/// Returns `Number` if the value is not an integer in the range of `i64` or `u64`.
 pub fn to_serde_number(number: &INumber) -> Result<Number, ConvertError>
     ensures number { IfOk result (λ made.
         SerdeMeans (data_number (number_view made)) (number_tree number.now.decimal)) }
@@ -64,18 +66,19 @@ pub fn to_serde_number(number: &INumber) -> Result<Number, ConvertError>
 
 /// Converts a value of `serde_json` to a JSON value.
 ///
-/// Members are in the order of its map, which is that of their keys. Strings and keys are interned in `cache`, in order. Numbers have no
-/// decimal point.
+/// The entries of an object are in the order of the `serde_json` map, which is sorted by key.
+/// Strings and keys are interned in `cache`, in order. Numbers are without a decimal point.
 ///
 /// # Errors
 ///
-/// Returns `Number` if the value contains a float, and `Memory` if an allocation for an array, an object or a string fails. The first
-/// strings and keys may have been interned.
+/// Returns `Number` if the value contains a float, and `Memory` if an allocation for an array, an
+/// object or a string fails. Some leading strings and keys may then be in `cache`.
 ///
 /// # Cost
 ///
-/// Linear in the value, plus hash lookups of keys and strings; if many keys of an object collide, n log n in its entries. The depth is not
-/// limited, but it recurses once per level, so a very deep value can overflow the stack.
+/// Linear in the value, plus hash lookups of keys and strings. If many keys of an object collide,
+/// the time for its n entries is n log n. The depth is not limited: the call recurses once per
+/// level, so that a very deep value can overflow the stack.
 #[cycle(from)]
 pub fn from_serde<S: BuildHasher>(
     alloc: Global,
@@ -98,7 +101,7 @@ pub fn from_serde<S: BuildHasher>(
     }
 }
 
-/// Converts the elements of a list of `serde_json` to an array, which is allocated once.
+/// Converts the elements of a `serde_json` list to an array, which is allocated once.
 #[cycle(from)]
 fn from_items<S: BuildHasher>(
     alloc: Global,
@@ -124,12 +127,13 @@ fn from_items<S: BuildHasher>(
 
 /// Converts a `serde_json` map to an object, in the order of the map, which is sorted by key.
 ///
-/// Collects the entries in a list, which is allocated first, and builds the object from it like `from_pairs`. Keys and strings are
-/// interned in `cache`, in order.
+/// The entries are first collected in a list, which is allocated once, and `from_pairs` then builds
+/// the object. Keys and strings are interned in `cache`, in order.
 ///
 /// # Errors
 ///
-/// Returns `Number` if the map contains a float, and `Memory` if an allocation fails. The first keys and strings may have been interned.
+/// Returns `Number` if the map contains a float, and `Memory` if an allocation fails. Some leading
+/// keys and strings may then be in `cache`.
 ///
 /// # Cost
 ///
@@ -165,17 +169,19 @@ pub fn from_serde_map<S: BuildHasher>(
 
 /// Converts a JSON value to a value of `serde_json`.
 ///
-/// A number keeps its value but not its decimal point; members are in the order of their keys. Strings are copied.
+/// Numbers keep their values but not their decimal points. Strings are copied. The entries of each
+/// object are sorted by key.
 ///
 /// # Errors
 ///
-/// Returns `Number` if the value contains a number that is neither an `i64` nor a `u64`, and `Memory` if an allocation for a list, a map or
-/// a string fails.
+/// Returns `Number` if a number in the value is not an integer in the range of `i64` or `u64`, and
+/// `Memory` if an allocation for a list, a map or a string fails.
 ///
 /// # Cost
 ///
-/// The entries of each object are inserted into a sorted map, in n log n time plus comparing keys; the rest is linear. The depth is not
-/// limited, but it recurses once per level, so a very deep value can overflow the stack.
+/// The entries of each object are inserted into a sorted map, in n log n time plus the comparisons
+/// of keys. All other work is linear. The depth is not limited: the call recurses once per level,
+/// so that a very deep value can overflow the stack.
 #[cycle(to)]
 pub fn to_serde(alloc: Global, value: &IValue) -> Result<Value, ConvertError>
     ensures means { IfOk result (λ made. SerdeMeans (view made) value.now.tree) }
@@ -192,7 +198,7 @@ pub fn to_serde(alloc: Global, value: &IValue) -> Result<Value, ConvertError>
     }
 }
 
-/// Converts the elements to a list of values of `serde_json`, which is allocated once.
+/// Converts `items` to a list of `serde_json` values, which is allocated once.
 #[cycle(to)]
 fn to_items(alloc: Global, items: &[IValue]) -> Result<Vec<Value>, ConvertError>
     ensures means { IfOk result (λ made.
@@ -207,15 +213,16 @@ fn to_items(alloc: Global, items: &[IValue]) -> Result<Vec<Value>, ConvertError>
     Ok(list)
 }
 
-/// Converts an object to a map of `serde_json`, in the order of its keys.
+/// Converts an object to a map of `serde_json`, which is sorted by key.
 ///
 /// # Errors
 ///
-/// Returns `Number` if it contains a number that is neither an `i64` nor a `u64`, and `Memory` if an allocation fails.
+/// Returns `Number` if a number in the object is not an integer in the range of `i64` or `u64`, and
+/// `Memory` if an allocation fails.
 ///
 /// # Cost
 ///
-/// That of `to_serde`.
+/// Like `to_serde`.
 #[cycle(to)]
 pub fn to_serde_map(alloc: Global, object: &IObject) -> Result<Map<String, Value>, ConvertError>
     ensures means { IfOk result (λ made.

@@ -11,13 +11,14 @@ use ijson_value::value::IValue;
 use std::alloc::Global;
 use std::hash::BuildHasher;
 
-/// A type that has a tree, and converts to a JSON value with that tree.
+/// A type that can be converted to a JSON value.
 ///
-/// It is implemented for `bool`, the integers of up to 64 bits, `&str`, `String`, `IValue`, `INumber`, `IString`, `IArray` and `IObject`;
-/// and, if `T` implements it, for `Option<T>` (`None` is null), `&[T]`, `[T; N]`, `Vec<T>`, `BTreeMap<String, T>`, `IndexMap<String, T>`
-/// and tuples of two to four such types. Values and their parts are copied.
+/// Implemented for `bool`, the integers of up to 64 bits, `&str`, `String`, `IValue`, `INumber`,
+/// `IString`, `IArray` and `IObject`. If `T` implements `ToIValue`, so do `Option<T>` (`None` is
+/// null), `&[T]`, `[T; N]`, `Vec<T>`, `BTreeMap<String, T>`, `IndexMap<String, T>`, and tuples of
+/// two to four such types. Values and their parts are copied.
 pub trait ToIValue {
-    /// The tree of a value.
+    /// The JSON tree of a Rust value.
     ghost tree: { Self → Tree };
 
     ghost use Rattle.std.specs.Prelude.{◌≡◌, OnOk, IfOk, IfErr};
@@ -25,12 +26,12 @@ pub trait ToIValue {
     ghost use Rattle.ijson_convert.specs.TextsOf.{texts_of};
     ghost use Rattle.ijson_convert.specs.declared.convert_error.ConvertError.TheVariants.{Memory};
 
-    /// Converts to a JSON value. Strings and keys are interned in `cache`, in order.
+    /// Converts `self` to a JSON value. Strings and keys are interned in `cache`, in order.
     ///
     /// # Errors
     ///
-    /// Returns `Memory` if an allocation fails or the capacity of an object would exceed 2^56. The first strings and keys may have been
-    /// interned.
+    /// Returns `Memory` if an allocation fails or the capacity of an object would exceed `2 ^ 56`.
+    /// Some leading strings and keys may then be in `cache`.
     fn to_ivalue<S: BuildHasher>(
         &self,
         alloc: Global,
@@ -52,13 +53,14 @@ pub trait ToIValue {
 ///
 /// # Errors
 ///
-/// Returns `Memory` if an allocation fails or the capacity of an object would exceed 2^56. The first strings and keys may have been
-/// interned.
+/// Returns `Memory` if an allocation fails or the capacity of an object would exceed `2 ^ 56`. Some
+/// leading strings and keys may then be in `cache`.
 ///
 /// # Cost
 ///
-/// Linear in the value, plus hash lookups of keys and strings; if many keys of an object collide, n log n in its entries. Each list and map
-/// is traversed once, and each array and object is allocated in its final capacity.
+/// Linear in the value, plus hash lookups of keys and strings. If many keys of an object collide,
+/// the time for its n entries is n log n. Each list and map is traversed once, and each array and
+/// object is allocated once, with its final capacity.
 pub fn to_value<T: ToIValue, S: BuildHasher>(
     alloc: Global,
     cache: &mut StringCache<S>,

@@ -1,4 +1,4 @@
-//! `ToIValue` for tuples: an array of the values of their parts.
+//! `ToIValue` for tuples, which are converted to arrays.
 ghost use Rattle.std.specs.Prelude.{[], ◌∷◌};
 ghost use Rattle.ijson_value.specs.Tree.{array, items_of};
 ghost use Rattle.ijson_convert.specs.private.Pushes.{Pushes};
@@ -11,7 +11,7 @@ use ijson_value::value::IValue;
 use std::alloc::Global;
 use std::hash::BuildHasher;
 
-/// Appends the value of `x`.
+/// Appends the JSON value of `x` to `list`.
 fn push_of<T: ToIValue, S: BuildHasher>(
     alloc: Global,
     cache: &mut StringCache<S>,
@@ -24,7 +24,7 @@ fn push_of<T: ToIValue, S: BuildHasher>(
     Ok(list.push(item)?)
 }
 
-/// Appends the values of `x` and `y`.
+/// Appends the JSON values of `x` and `y` to `list`.
 fn push_both<A: ToIValue, B: ToIValue, S: BuildHasher>(
     alloc: Global,
     cache: &mut StringCache<S>,
@@ -38,7 +38,7 @@ fn push_both<A: ToIValue, B: ToIValue, S: BuildHasher>(
     push_of(alloc, cache, list, y)
 }
 
-/// Converts to an array of its two parts.
+/// Converts to an array of two elements.
 impl<A: ToIValue, B: ToIValue> ToIValue for (A, B) {
     ghost tree = { λ p. array (items_of (A.ToIValue.tree p.0 ∷ B.ToIValue.tree p.1 ∷ [])) };
 
@@ -53,7 +53,7 @@ impl<A: ToIValue, B: ToIValue> ToIValue for (A, B) {
     }
 }
 
-/// Converts to an array of its three parts.
+/// Converts to an array of three elements.
 impl<A: ToIValue, B: ToIValue, C: ToIValue> ToIValue for (A, B, C) {
     ghost tree = { λ p. array (items_of (A.ToIValue.tree p.0 ∷ B.ToIValue.tree p.1 ∷ C.ToIValue.tree p.2 ∷ [])) };
 
@@ -69,7 +69,7 @@ impl<A: ToIValue, B: ToIValue, C: ToIValue> ToIValue for (A, B, C) {
     }
 }
 
-/// Converts to an array of its four parts.
+/// Converts to an array of four elements.
 impl<A: ToIValue, B: ToIValue, C: ToIValue, D: ToIValue> ToIValue for (A, B, C, D) {
     ghost tree = { λ p. array (items_of (A.ToIValue.tree p.0 ∷ B.ToIValue.tree p.1 ∷ C.ToIValue.tree p.2
         ∷ D.ToIValue.tree p.3 ∷ [])) };

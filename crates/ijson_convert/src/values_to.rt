@@ -1,4 +1,4 @@
-//! `ToIValue` for values and their parts: copies whose strings are interned in the cache of the call.
+//! `ToIValue` for JSON values and their parts: copies them and interns their strings.
 ghost use Rattle.std.specs.Prelude.{◌≡◌, OnOk, IfOk, IfErr};
 ghost use Rattle.ijson_value.specs.Tree.{number, string};
 ghost use Rattle.ijson_value.specs.Values.{array_tree, object_tree};
@@ -16,7 +16,7 @@ use ijson_value::value::{DestructuredRef, IValue};
 use std::alloc::Global;
 use std::hash::BuildHasher;
 
-/// Returns a copy of a value.
+/// Copies a value. Its strings and keys are interned in `cache`.
 #[cycle(copy)]
 fn copy_value<S: BuildHasher>(
     alloc: Global,
@@ -40,7 +40,7 @@ fn copy_value<S: BuildHasher>(
     }
 }
 
-/// Returns an array of copies of `items`, which is allocated once.
+/// Copies `items` to an array, which is allocated once.
 #[cycle(copy)]
 fn copy_items<S: BuildHasher>(
     alloc: Global,
@@ -61,7 +61,7 @@ fn copy_items<S: BuildHasher>(
     Ok(array)
 }
 
-/// Returns a copy of `object`, in the same order and without spare capacity.
+/// Copies `object`, in the same order and without spare capacity.
 #[cycle(copy)]
 fn copy_pairs<S: BuildHasher>(
     alloc: Global,
@@ -101,7 +101,7 @@ impl ToIValue for INumber {
     }
 }
 
-/// Interns a string.
+/// Interns the string in `cache`.
 impl ToIValue for IString {
     ghost tree = { λ s. string s };
 
@@ -114,7 +114,7 @@ impl ToIValue for IString {
     }
 }
 
-/// Copies an array. Its strings are interned.
+/// Copies an array. Its strings and keys are interned in `cache`.
 impl ToIValue for IArray {
     ghost tree = { λ array. array_tree array.items };
 
@@ -127,7 +127,7 @@ impl ToIValue for IArray {
     }
 }
 
-/// Copies an object. Its keys and strings are interned.
+/// Copies an object. Its strings and keys are interned in `cache`.
 impl ToIValue for IObject {
     ghost tree = { λ object. object_tree object.pairs };
 
@@ -140,7 +140,7 @@ impl ToIValue for IObject {
     }
 }
 
-/// Copies a value. Its keys and strings are interned.
+/// Copies a value. Its strings and keys are interned in `cache`.
 impl ToIValue for IValue {
     ghost tree = { λ value. value.tree };
 

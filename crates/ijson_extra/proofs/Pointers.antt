@@ -1,4 +1,4 @@
--- The tokens of a pointer, one by one.
+-- Lemmas about splitting a pointer into tokens and decoding their escapes.
 use Rattle.std.proofs.Common.{◌≡◌, ◌≢◌, ◌⊎◌, inl, inr, ◌↔◌, IsTrue, ℕ, suc, ◌<◌, ◌≤◌, drop, is_some, Bool, true, false, List, []}
 use Rattle.std.proofs.Common.{◌∷◌, ◌++◌, eqb, length, get_or, refl, sym, ap, ◌∙◌, arith, Option, Some, None, option_map}
 use mathlib.Core.Bool.{true≢false}
@@ -30,7 +30,7 @@ written_last [] h = refl
 written_last (b ∷ token) h =
     in_token b token (ne_eqb b 47 (h 0 (omega arith))) ∙ ap (in_first b) (written_last token (tail_lacks 47 b token h))
 
--- the list has a first token
+-- Holds if the list of tokens is not empty.
 abbrev HasFirst : List (List ℕ) → Type 0
 HasFirst ws = (more : List (List ℕ)) × (ws ≡ get_or ws 0 [] ∷ more)
 
@@ -51,21 +51,21 @@ pub first_named : (text token : List ℕ) (ws : List (List ℕ)) → written_tok
     → (token ≡ first_of text) × (written_tokens text ≡ first_of text ∷ ws)
 first_named text token ws is = let first = sym (ap (λ ws. get_or ws 0 []) is) in (first, is ∙ ap (λ t. t ∷ ws) first)
 
--- the result of following the pointer `left` from the value found so far, if any
+-- The result of following the tokens of `left` from the value found so far, if any.
 abbrev pub outcome : Option Tree → List ℕ → Option (Option Tree)
 outcome found left = option_map (λ tokens. option_and_then (λ t. followed t tokens) found) (all_meant (written_tokens left))
 
--- ---- the meaning of a token
+-- If a token does not begin with `~`, its first byte means itself.
 pub tilde : (b : ℕ) (text : List ℕ) → eqb b 126 ≡ false → meant (b ∷ text) ≡ option_map (λ token. b ∷ token) (meant text)
 tilde b text e = ap (λ (r : Bool). elim r [ true ↦ escape_meant text | false ↦ option_map (λ token. b ∷ token) (meant text) ]) e
 
--- a token without `~` means itself
+-- A token without `~` means itself.
 pub meant_itself : (token : List ℕ) → LacksByte 126 token → meant token ≡ Some token
 meant_itself [] h = refl
 meant_itself (b ∷ token) h = tilde b token (ne_eqb b 126 (h 0 (omega arith)))
     ∙ ap (option_map (λ t. b ∷ t)) (meant_itself token (tail_lacks 126 b token h))
 
--- only the empty text means the empty key
+-- A key that begins with the byte `b` is not empty.
 some_longer : (b : ℕ) (o : Option (List ℕ)) → option_map (λ token. b ∷ token) o ≡ Some [] → ⊥
 some_longer b None e = absurd (cc)
 some_longer b (Some t) e = absurd (cc)
@@ -82,7 +82,7 @@ meant_longer b text e = by_tests (λ o. o ≡ Some [] → ⊥) (eqb b 126) _ _ (
 pub none_zero : (n : ℕ) → false ≡ (suc n == 0)
 none_zero n = grind (arith, nat_tests)
 
--- if `left` is empty or malformed, it has a meaning exactly if it is empty
+-- If `left` is empty or has an invalid escape, `left` has a meaning exactly if its length is 0.
 pub none_left : (left : List ℕ) → (meant left ≡ None) ⊎ (left ≡ []) → is_some (meant left) ≡ (length left == 0)
 none_left [] h = refl
 none_left (b ∷ text) (inl e) = ap is_some e ∙ none_zero (length text)
@@ -92,14 +92,15 @@ pub all_left : (left : List ℕ) (r : Bool) → r ≡ (length left == 0) → IsT
 all_left [] r e = (λ t. refl, λ f. e)
 all_left (b ∷ text) r e = (λ t. absurd (true≢false (sym t ∙ e ∙ sym (none_zero (length text)))), λ f. absurd (meant_longer b text f))
 
--- if `left` is empty or malformed but `key` has a byte at `i`, then `left` does not mean the rest of `key`
+-- If `left` is empty or has an invalid escape and `key` has a byte at `i`, `left` does not mean the
+-- rest of `key`.
 pub byte_none : (P : Type 0) (key left : List ℕ) (i : ℕ) → i < length key → (meant left ≡ None) ⊎ (left ≡ [])
     → P ↔ (meant left ≡ Some (drop i key)) → P → ⊥
 byte_none P key left i l (inl e) both f = let g = sym e ∙ both.0 f in absurd (cc)
 byte_none P key left i l (inr e) both f =
     let g = ap meant (sym e) ∙ both.0 f ∙ ap (λ x. Some x) (drop_more key i 0 l) in absurd (cc)
 
--- if `key` has no byte at `i`, then `left` means the rest of `key` exactly if it is empty
+-- If all bytes of `key` were compared, `left` means the rest of `key` exactly if `left` is empty.
 pub key_ended : (P : Type 0) (key left : List ℕ) (i : ℕ) (r : Bool) → length key ≤ i → r ≡ (length left == 0)
     → P ↔ (meant left ≡ Some (drop i key)) → IsTrue r ↔ P
 key_ended P key left i r h e both =

@@ -1,4 +1,5 @@
--- A value after a mutable borrow at a pointer ends: the last value written is at the pointer, and nothing else has changed.
+-- A value after a mutable borrow at a pointer ended: the last value written is at the pointer, and
+-- everything else is unchanged.
 use Rattle.std.specs.Prelude.{◌≡◌, ℕ, List, Option, Some, None, Result}
 use Rattle.std.specs.Borrow.{LendsSoOk, MutBor, Fml}
 use Rattle.ijson_value.specs.NodeValue.{node_value}
@@ -11,13 +12,14 @@ use Rattle.ijson_extra.specs.Pointer.{resolved_with}
 use Rattle.ijson_extra.specs.declared.pointer.lend.Unresolved.{Unresolved}
 use Rattle.ijson_extra.specs.declared.pointer.lend.Unresolved.TheVariants.{Nothing, NoPointer}
 
--- the value at a pointer; if there is none, the outer value is unchanged
+-- After the borrow ends, the lent value is at the pointer. If no value was lent, the outer value is
+-- unchanged.
 abbrev pub LendsResolved : MutBor WellFormed → List ℕ → Result (MutBor Destructured) Unresolved → Fml
 LendsResolved s pointer r =
     LendsSoOk value.the_row node.the_row s r (λ n w. n.tree ≡ resolved_with s.now.tree pointer (node_value w).tree)
     (λ n. n.tree ≡ s.now.tree)
 
--- the meaning of each error for the pointer
+-- The result of `resolved` that each error stands for.
 abbrev pub unresolved : Unresolved → Option (Option Tree)
 unresolved Nothing = Some None
 unresolved (NoPointer why) = None

@@ -5,14 +5,14 @@ use Rattle.std.specs.Str.Parse.{digits_value}
 use Rattle.ijson_value.specs.Step.{Step, by_position, by_key, tree_at, tree_with}
 use Rattle.ijson_value.specs.Tree.{Tree, array, object}
 
--- ---- the tokens of a text (section 3): each follows a `/`, which is 47
+-- ---- The tokens of a pointer (section 3): each token follows a `/`, which is byte 47
 
--- one more leading byte of the first token
+-- The tokens with the byte `b` prepended to the first token.
 abbrev pub in_first : ℕ → List (List ℕ) → List (List ℕ)
 in_first b [] = []
 in_first b (token ∷ more) = (b ∷ token) ∷ more
 
--- the tokens as written, after the first `/`
+-- The tokens of the text after the first `/`, as written.
 abbrev pub written_tokens : List ℕ → List (List ℕ)
 written_tokens [] = [] ∷ []
 written_tokens (b ∷ text) =
@@ -21,7 +21,8 @@ written_tokens (b ∷ text) =
       | false ↦ in_first b (written_tokens text)
     ]
 
--- ---- the meaning of a token (section 4): `~`, which is 126, is written `~0`, `/` is written `~1`, and no other `~` is valid
+-- ---- What a token means (section 4): `~0` means `~` (byte 126), `~1` means `/`, and any other `~`
+-- is invalid
 abbrev mutual
   pub meant : List ℕ → Option (List ℕ)
   meant [] = Some []
@@ -31,7 +32,7 @@ abbrev mutual
         | false ↦ option_map (λ token. b ∷ token) (meant text)
       ]
 
-  -- after a `~`
+  -- The meaning of a token after a `~`.
   pub escape_meant : List ℕ → Option (List ℕ)
   escape_meant [] = None
   escape_meant (b ∷ text) =
@@ -48,7 +49,7 @@ all_meant [] = Some []
 all_meant (written ∷ more) =
     option_and_then (λ token. option_map (λ tokens. token ∷ tokens) (all_meant more)) (meant written)
 
--- the tokens of a pointer, or none if the text is not a pointer
+-- The tokens of a pointer with their escapes decoded, or `None` if the text is not a pointer.
 abbrev pub tokens_of : List ℕ → Option (List (List ℕ))
 tokens_of [] = Some []
 tokens_of (b ∷ text) =
@@ -57,15 +58,15 @@ tokens_of (b ∷ text) =
       | false ↦ None
     ]
 
--- ---- the value that a token refers to (section 4)
+-- ---- The value that a token refers to (section 4)
 
--- `0`, or digits without a leading zero
+-- Returns `true` for `0`, and for digits without a leading zero.
 abbrev pub names_position : List ℕ → Bool
 names_position [] = false
 names_position (b ∷ []) = all_ascii_digits (b ∷ [])
 names_position (b ∷ c ∷ token) = not (b == 48) && all_ascii_digits (b ∷ c ∷ token)
 
--- the index that a token denotes
+-- The index that a token denotes.
 abbrev pub position_named : List ℕ → Option ℕ
 position_named token =
     elim (names_position token) [
@@ -73,17 +74,17 @@ position_named token =
       | false ↦ None
     ]
 
--- the step that a token denotes in a value: to the key of an object, or to an index of an array
+-- The step that a token denotes: to the value of a key in an object, or to an index in an array.
 abbrev pub step_named : Tree → List ℕ → Option Step
 step_named (array items) token = option_map by_position (position_named token)
 step_named (object _) token = Some (by_key token)
 step_named _ token = None
 
--- the value that a token refers to in a value
+-- The child of a value that a token refers to.
 abbrev pub child_at : Tree → List ℕ → Option Tree
 child_at t token = option_and_then (tree_at t) (step_named t token)
 
--- the value with another one there
+-- The tree with the child at `step` replaced by `u`.
 abbrev pub stepped_with : Tree → Option Step → Tree → Tree
 stepped_with t None u = t
 stepped_with t (Some step) u = tree_with t step u
@@ -91,19 +92,19 @@ stepped_with t (Some step) u = tree_with t step u
 abbrev pub child_with : Tree → List ℕ → Tree → Tree
 child_with t token u = stepped_with t (step_named t token) u
 
--- ---- the whole pointer
+-- ---- The value that a pointer refers to
 
 abbrev pub followed : Tree → List (List ℕ) → Option Tree
 followed t [] = Some t
 followed t (token ∷ more) = option_and_then (λ u. followed u more) (child_at t token)
 
--- the tree at a pointer, or none; and nothing at all if the text is not a pointer
+-- The tree at a pointer: `Some None` if it does not exist, and `None` if the text is not a pointer.
 abbrev pub resolved : Tree → List ℕ → Option (Option Tree)
 resolved t pointer = option_map (followed t) (tokens_of pointer)
 
--- ---- replacing the value
+-- ---- The tree with the value at a pointer replaced
 
--- a tree, if any, with another one where the tokens lead
+-- The tree with the value that the tokens lead to replaced by `u`.
 abbrev pub followed_with : Option Tree → List (List ℕ) → Tree → Tree
 followed_with t [] u = u
 followed_with None (token ∷ more) u = u
@@ -113,6 +114,6 @@ abbrev pub tokens_with : Tree → Option (List (List ℕ)) → Tree → Tree
 tokens_with t None u = t
 tokens_with t (Some tokens) u = followed_with (Some t) tokens u
 
--- the tree with another one at a pointer that refers to a tree in it; everything else is unchanged
+-- The tree with the value at a pointer replaced by `u`. Everything else is unchanged.
 abbrev pub resolved_with : Tree → List ℕ → Tree → Tree
 resolved_with t pointer u = tokens_with t (tokens_of pointer) u

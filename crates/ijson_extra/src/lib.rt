@@ -1,4 +1,5 @@
-//! Functions over values that use only the public contracts of the other crates: canonical text, JSON Merge Patch and JSON Pointer.
+//! Canonical text, JSON Merge Patch and JSON Pointer, built on the public contracts of the other
+//! crates.
 #![tactic(auto)]
 
 pub mod canonical;

@@ -1,4 +1,5 @@
-//! JSON Merge Patch (RFC 7396): changing a value by a patch, which has the structure of the value, with null for members to remove.
+//! JSON Merge Patch (RFC 7396): a patch has the structure of the value to change, with null for
+//! members to remove.
 ghost use Rattle.std.specs.Prelude.{◌≡◌, ◌++◌, ◌+◌, ◌≤◌, [], length, drop, map, get_or, option_map, IfOk, Ok, OnOk};
 ghost use Rattle.std.specs.Borrow.{sem};
 ghost use Rattle.std.specs.Option.{unwrap_or};
@@ -19,18 +20,22 @@ use ijson_value::value::IValue;
 use std::alloc::{AllocError, Global};
 use std::mem;
 
-/// The maximum number of members of a patch that are looked up. If many keys collide, so many scans of the target take less time than a
-/// table of all keys.
+/// A patch with up to `FEW` members is applied by a lookup of each key.
+///
+/// If many keys collide, up to `FEW` scans of the target take less time than a table of all keys.
 const FEW: usize = 32;
 
-/// Keys, each with its change by a patch, if any.
+/// Keys, each with its change. A key without a change is kept.
 type Changes<'a> = Vec<(IString, Option<&'a IValue>)>;
 
-/// Returns `target`, changed by `patch` (RFC 7396, section 2).
+/// Applies `patch` to `target` and returns the result (RFC 7396, section 2).
 ///
-/// A patch that is not an object replaces the target. The members of an object change those of the target: null removes a member, and any
-/// other value is a patch of the member. A changed member keeps its index, and a new one is appended, in the order of the patch. A target
-/// that is not an object counts as one without members.
+/// A patch that is not an object replaces the target. Each member of an object patch changes the
+/// target's member with the same key: null removes the member, and any other value is applied to it
+/// as a patch.
+///
+/// Changed members keep their order, and new members are appended in the order of the patch. A
+/// target that is not an object is treated as an empty object.
 ///
 /// ```
 /// let value = merge_patch(alloc, target, &patch)?; // {"b":2,"c":3} of {"a":1,"b":2} and the patch {"a":null,"c":3}
@@ -38,14 +43,18 @@ type Changes<'a> = Vec<(IString, Option<&'a IValue>)>;
 ///
 /// # Errors
 ///
-/// Returns `AllocError` if there is no memory for a copy of a part of the patch, for one more entry or for a table of keys, or if objects
-/// have more than 2^56 entries. The target is dropped.
+/// Returns `AllocError` if an allocation fails, or if an object would have more than `2 ^ 56`
+/// entries. The target is dropped.
 ///
 /// # Cost
 ///
-/// An object of the patch with at most 32 members takes a lookup for each, and a shift of the later entries for each removal. If many keys
-/// collide, a lookup scans the target's object once. For an object with more members, two tables are built of the keys of both objects, as
-/// by `IObject::from_pairs`: in linear time if few keys collide, and otherwise n log n. It recurses once per level of the patch.
+/// For an object of the patch with at most 32 members, one lookup per member, plus a shift of the
+/// later entries for each removal. If many keys collide, each lookup scans the target's object.
+///
+/// For a larger object, two tables of the keys of both objects are built, each at the cost of
+/// `IObject::from_pairs`: linear if few keys collide, n log n otherwise.
+///
+/// The call recurses once per level of the patch.
 #[cycle(merge)]
 pub fn merge_patch(alloc: Global, target: IValue, patch: &IValue) -> Result<IValue, AllocError>
     ensures { IfOk result (λ value. value.tree ≡ merged target.tree patch.now.tree) }
@@ -53,7 +62,7 @@ pub fn merge_patch(alloc: Global, target: IValue, patch: &IValue) -> Result<IVal
     let Some(changes) = patch.as_object() else {
         return patch.clone();
     };
-    // The functions that do not recurse are not inlined, so that a level takes less of the stack.
+    // Inlining these functions, which do not recurse, would increase the stack frame of each level.
     let object = object_of(alloc, target);
     if changes.len() <= FEW {
         changed_in_turn(alloc, object, changes)
@@ -62,7 +71,7 @@ pub fn merge_patch(alloc: Global, target: IValue, patch: &IValue) -> Result<IVal
     }
 }
 
-/// Returns the object of a value, or an empty one for any other value.
+/// Returns the object in `value`, or an empty object if `value` is of another kind.
 #[inline(never)]
 fn object_of(alloc: Global, value: IValue) -> IObject
     ensures { members_in (object_tree result.pairs) ≡ members_in value.tree }
@@ -73,7 +82,7 @@ fn object_of(alloc: Global, value: IValue) -> IObject
     }
 }
 
-/// Returns an object changed by a patch, by a lookup of each of its members.
+/// Returns `object` changed by the patch `changes`, with one lookup per member of the patch.
 #[cycle(merge)]
 fn changed_in_turn(
     alloc: Global,
@@ -91,13 +100,13 @@ fn changed_in_turn(
             return Err(AllocError);
         };
         let value = merge_patch(alloc, place.take(), change)?;
-        // Not `*place = value`, which the proof splits by each kind of the old value.
+        // An assignment to `*place` would make the proof split by each kind of the old value.
         drop(mem::replace(place, value));
     }
     Ok(IValue::from(object))
 }
 
-/// Removes the entry of a key, if it exists. The order of the others stays.
+/// Removes the entry of a key, if it exists. The order of all other entries is unchanged.
 #[inline(never)]
 fn remove(object: &mut IObject, key: &IString)
     ensures { object.new.pairs ≡ shift_out_key key.now object.old.pairs }
@@ -105,7 +114,7 @@ fn remove(object: &mut IObject, key: &IString)
     drop(object.shift_remove(key));
 }
 
-/// Returns a mutable reference to the value of a key, appending a missing key with null.
+/// Returns a mutable reference to the value of `key`. A missing key is first appended with null.
 #[inline(never)]
 fn place_of(object: &mut IObject, key: IString) -> Result<&mut IValue, RefusedPair>
     ensures* writes_back { sem 𝓛 (LendsPut object.entry key result) }
@@ -114,7 +123,7 @@ fn place_of(object: &mut IObject, key: IString) -> Result<&mut IValue, RefusedPa
     object.index_or_insert(key)
 }
 
-/// Returns an object changed by a patch, by one table of the keys of both.
+/// Returns `object` changed by the patch `changes`, with one table of the keys of both.
 #[cycle(merge)]
 fn changed_at_once(alloc: Global, object: IObject, changes: &IObject) -> Result<IValue, AllocError>
     ensures { IfOk result (λ value. value.tree ≡ merged (object_tree object.pairs) (object_tree changes.now.pairs)) }
@@ -131,7 +140,7 @@ fn changed_at_once(alloc: Global, object: IObject, changes: &IObject) -> Result<
     value_of_pairs(alloc, pairs)
 }
 
-/// Returns an object of these entries, as a value.
+/// Returns an object of these entries, as a value. A duplicate key replaces the earlier value.
 #[inline(never)]
 fn value_of_pairs(alloc: Global, pairs: Vec<(IString, IValue)>) -> Result<IValue, AllocError>
     ensures { IfOk result (λ value. value.tree ≡ object_tree (put_each [] pairs.items)) }
@@ -140,7 +149,7 @@ fn value_of_pairs(alloc: Global, pairs: Vec<(IString, IValue)>) -> Result<IValue
     Ok(IValue::from(object))
 }
 
-/// Returns the value of the next entry, or null after the last.
+/// Returns the value of the next entry, or null if the entries have ended.
 #[inline(never)]
 fn next_value(olds: &mut IntoIter) -> IValue
     ensures value { result.tree ≡ get_or (old_trees olds.old) 0 null }
@@ -155,7 +164,7 @@ fn next_value(olds: &mut IntoIter) -> IValue
     }
 }
 
-/// Returns what a change makes of the value of a member: none if it removes the member.
+/// Returns the value of a member after its change, or `None` if the change removes the member.
 #[cycle(merge)]
 fn changed_value(
     alloc: Global,
@@ -174,7 +183,7 @@ fn changed_value(
     }
 }
 
-/// Returns the keys of `object`, then the keys that only `changes` has, each with its change, if any.
+/// Returns the keys of `object`, then the new keys of `changes`, each with its change, if any.
 #[inline(never)]
 fn joined_keys<'a>(
     alloc: Global,
@@ -190,7 +199,7 @@ fn joined_keys<'a>(
     Ok(table.into_pairs())
 }
 
-/// Returns the value of `made`, or an error that does not distinguish a failed allocation from too many entries.
+/// Converts an error to `AllocError`, whether an allocation failed or the capacity was too large.
 fn within_memory<T>(made: Result<T, ReserveError>) -> Result<T, AllocError>
     ensures { IfOk result (λ value. made ≡ Ok value) }
 {
@@ -200,7 +209,7 @@ fn within_memory<T>(made: Result<T, ReserveError>) -> Result<T, AllocError>
     }
 }
 
-/// Appends the keys of an object, without a change.
+/// Appends the keys of `object`, each without a change.
 fn push_unchanged(keys: &mut Changes, object: &IObject) -> Result<(), AllocError>
     requires { length keys.old.items + length object.now.pairs ≤ vec_capacity keys.old }
     ensures keys { OnOk result (map shown keys.new.items ≡ map shown keys.old.items ++ unchanged (keys_of object.now.pairs)) }
@@ -212,7 +221,7 @@ fn push_unchanged(keys: &mut Changes, object: &IObject) -> Result<(), AllocError
     Ok(())
 }
 
-/// Appends the keys of a patch, each with its change.
+/// Appends the keys of the patch `changes`, each with its change.
 fn push_changed<'a>(keys: &mut Changes<'a>, changes: &'a IObject) -> Result<(), AllocError>
     requires { length keys.old.items + length changes.now.pairs ≤ vec_capacity keys.old }
     ensures keys { OnOk result (map shown keys.new.items ≡ map shown keys.old.items ++ all_changed changes.now.pairs) }

@@ -1,4 +1,4 @@
-//! JSON Pointer (RFC 6901): finding a value inside a value by a path.
+//! JSON Pointer (RFC 6901): finds a value inside a value by a path.
 ghost use Rattle.std.specs.Prelude.{◌≡◌, ◌<◌, ◌≤◌, ◌⊎◌, ◌∷◌, ℕ, List, [], length, Some, None, option_map, option_and_then};
 ghost use Rattle.std.specs.Prelude.{is_some, Contains, IfOk, IfErr, IfSome, IfNone, IsTrue, IsFalse, ◌↔◌, slice_get};
 ghost use Rattle.std.specs.Str.{all_ascii_digits};
@@ -17,17 +17,19 @@ use lend::{inside, names_itself, opened};
 pub use lend::{Unresolved, resolve_mut, resolve_opened_mut};
 use thiserror::Error;
 
-/// Why a pointer is invalid.
+/// The reason why a pointer is invalid.
 #[derive(Clone, Copy, PartialEq, Eq, Debug, Drop, Error)]
 pub enum PointerError {
     /// The text is not a JSON Pointer.
     ///
-    /// It is not empty and does not begin with `/`, or a `~` in it is not followed by `0` or `1`.
+    /// The text is not empty and does not begin with `/`, or it contains a `~` that is not followed
+    /// by `0` or `1`.
     #[error("not a JSON Pointer")]
     Syntax,
 }
 
-/// Returns the value that `pointer` refers to inside `value` (RFC 6901), or `None` if there is none.
+/// Returns the value that `pointer` refers to in `value` (RFC 6901), or `None` if it does not
+/// exist.
 ///
 /// The empty pointer refers to `value` itself. Does not allocate.
 ///
@@ -38,11 +40,13 @@ pub enum PointerError {
 ///
 /// # Errors
 ///
-/// Fails if `pointer` is not a JSON Pointer, even if the invalid token follows one that refers to nothing.
+/// Fails if `pointer` is not a JSON Pointer, even if a token before the invalid token refers to
+/// nothing.
 ///
 /// # Cost
 ///
-/// One hash lookup or one index for each token; but in an object, a token with `~` is compared with the keys sequentially.
+/// One hash lookup or one index per token. A token with `~` is compared with the keys of the object
+/// sequentially.
 pub fn resolve<'a>(value: &'a IValue, pointer: &str) -> Result<Option<&'a IValue>, PointerError>
     ensures found { IfOk result (λ found.
         Some (option_map (λ inner. inner.now.tree) found) ≡ resolved value.now.tree pointer.now) }
@@ -65,7 +69,7 @@ pub fn resolve<'a>(value: &'a IValue, pointer: &str) -> Result<Option<&'a IValue
     }
 }
 
-/// Returns the tokens of a pointer that is not empty, or `None` if the text does not begin with `/`.
+/// Returns `pointer` without its leading `/`, or `None` if it does not begin with `/`.
 fn after_slash(pointer: &str) -> Option<&str>
     ensures some { IfSome result (λ left. pointer.now ≡ 47 ∷ left.now) }
     ensures none { IfNone result (pointer.now ≡ [] ⊎ tokens_of pointer.now ≡ None) }
@@ -73,7 +77,7 @@ fn after_slash(pointer: &str) -> Option<&str>
     pointer.strip_prefix('/')
 }
 
-/// Returns the first token, and the text after it, or `None` if there is no other token.
+/// Returns the first token of `left`, and the text after the next `/`, if any.
 fn split_token(left: &str) -> (&str, Option<&str>)
     ensures first { result.0.now ≡ first_of left.now }
     ensures some { IfSome result.1 (λ behind. (length behind.now < length left.now)
@@ -86,9 +90,9 @@ fn split_token(left: &str) -> (&str, Option<&str>)
     }
 }
 
-/// JSON Pointers (RFC 6901) as a method of values. Import the trait to call it.
+/// JSON Pointers (RFC 6901) as methods. Import the trait to call them.
 pub trait Pointer {
-    /// The tree of a value.
+    /// The JSON tree of a value.
     ghost tree: { Self → Tree };
 
     ghost use Rattle.std.specs.Prelude.{◌≡◌, option_map, option_and_then};
@@ -96,9 +100,10 @@ pub trait Pointer {
     ghost use Rattle.ijson_extra.specs.LendsNamedValue.{LendsPointed};
     ghost use Rattle.ijson_extra.specs.Pointer.{resolved};
 
-    /// Returns the value that `pointer` refers to, or `None` if there is none.
+    /// Returns the value that `pointer` refers to, or `None` if it does not exist.
     ///
-    /// It also returns `None` if `pointer` is not a JSON Pointer; `resolve` distinguishes the two.
+    /// Also returns `None` if `pointer` is not a JSON Pointer. To distinguish the two, call
+    /// `resolve`.
     ///
     /// ```
     /// let port = value.pointer("/servers/0/port"); // Some of 80 in {"servers":[{"port":80}]}
@@ -106,12 +111,15 @@ pub trait Pointer {
     ///
     /// # Cost
     ///
-    /// That of `resolve`.
+    /// Like `resolve`.
     fn pointer(&self, pointer: &str) -> Option<&IValue>
         ensures { option_map (λ found. found.now.tree) result
             ≡ option_and_then (λ found. found) (resolved (tree self.now) pointer.now) };
 
-    /// Like `pointer`, but returns a mutable reference. Writing changes that one value.
+    /// Returns a mutable reference to the value that `pointer` refers to, or `None` if it does not
+    /// exist.
+    ///
+    /// Also returns `None` if `pointer` is not a JSON Pointer. Writing changes only this value.
     ///
     /// ```
     /// if let Some(port) = value.pointer_mut("/servers/0/port") {
@@ -121,14 +129,14 @@ pub trait Pointer {
     ///
     /// # Cost
     ///
-    /// That of `resolve_mut`.
+    /// Like `resolve_mut`.
     fn pointer_mut(&mut self, pointer: &str) -> Option<&mut IValue>
         ensures* writes_back { sem 𝓛 (LendsPointed Self.row tree self.entry pointer.now result) }
         ensures value { option_map (λ found. found.now.tree) result
             ≡ option_and_then (λ found. found) (resolved (tree self.old) pointer.now) };
 }
 
-/// Looks up by `resolve`.
+/// Resolves pointers like `resolve` and `resolve_mut`.
 impl Pointer for IValue {
     ghost tree = { λ value. value.tree };
 
@@ -147,7 +155,10 @@ impl Pointer for IValue {
     }
 }
 
-/// Returns the value that a token refers to in the value found so far.
+/// Returns the child of `found` that `token` refers to, or `None` if `found` or the child is
+/// missing.
+///
+/// Fails if `token` has an invalid escape.
 fn step<'a>(found: Option<&'a IValue>, token: &str) -> Result<Option<&'a IValue>, PointerError>
     ensures found { IfOk result (λ inner. (m : List ℕ) × (meant token.now ≡ Some m)
         × (option_map (λ v. v.now.tree) inner
@@ -163,9 +174,9 @@ fn step<'a>(found: Option<&'a IValue>, token: &str) -> Result<Option<&'a IValue>
     }
 }
 
-/// Splits off the first byte that a written token means.
+/// Splits off the first byte that a written token means: an escape means one byte.
 ///
-/// Returns `None` if nothing is left, or only a `~` that is not an escape.
+/// Returns `None` if `written` is empty or begins with a `~` that is not an escape.
 fn split_meant(written: &[u8]) -> Option<(u8, &[u8])>
     ensures some { IfSome result (λ taken. (length taken.1.now < length written.now)
         × (meant written.now ≡ option_map (λ token. taken.0 ∷ token) (meant taken.1.now))) }
@@ -180,7 +191,7 @@ fn split_meant(written: &[u8]) -> Option<(u8, &[u8])>
     }
 }
 
-/// Returns `true` if each `~` of a token is part of an escape.
+/// Returns `true` if each `~` of `token` begins an escape: `~0` or `~1`.
 #[tactic(auto, using(crate::proofs::Pointers::none_left))]
 fn is_token(token: &str) -> bool
     ensures { result ≡ is_some (meant token.now) }
@@ -192,7 +203,7 @@ fn is_token(token: &str) -> bool
     left.is_empty()
 }
 
-/// Returns `true` if a token means a key. It is compared as written, byte by byte.
+/// Returns `true` if `token` means `key`. Decodes the token byte by byte and does not allocate.
 fn means(token: &str, key: &str) -> bool
     ensures { IsTrue result ↔ (meant token.now ≡ Some key.now) }
 {
@@ -209,7 +220,7 @@ fn means(token: &str, key: &str) -> bool
     left.is_empty()
 }
 
-/// Returns the value that a token refers to in a value.
+/// Returns the child of `value` that `token` refers to, or `None` if it does not exist.
 fn child<'a>(value: &'a IValue, token: &str) -> Option<&'a IValue>
     ensures { (m : List ℕ) → meant token.now ≡ Some m
         → option_map (λ v. v.now.tree) result ≡ child_at value.now.tree m }
@@ -220,7 +231,7 @@ fn child<'a>(value: &'a IValue, token: &str) -> Option<&'a IValue>
     member(value.as_object()?, token)
 }
 
-/// Returns the value of the key that a token means.
+/// Returns the value of the key that `token` means.
 fn member<'a>(object: &'a IObject, token: &str) -> Option<&'a IValue>
     ensures { (m : List ℕ) → meant token.now ≡ Some m
         → option_copied result ≡ lookup m object.now.pairs }
@@ -234,7 +245,7 @@ fn member<'a>(object: &'a IObject, token: &str) -> Option<&'a IValue>
     }
 }
 
-/// Returns `true` if a token contains a `~`; any other means itself.
+/// Returns `true` if `token` contains a `~`. A token without `~` means itself.
 fn has_escape(token: &str) -> bool
     ensures escape { IsTrue result → Contains token.now 126 }
     ensures itself { IsFalse result → meant token.now ≡ Some token.now }
@@ -242,9 +253,10 @@ fn has_escape(token: &str) -> bool
     token.contains('~')
 }
 
-/// Returns the index and the value of the key that a token with `~` means.
+/// Returns the index and the value of the key that `token` means.
 ///
-/// Each key is compared with the token as written. A token without `~` is a key itself, which can be looked up.
+/// Compares the token with each key sequentially. A token without `~` is a key and can be looked up
+/// by its hash instead.
 fn find_member<'a>(object: &'a IObject, token: &str) -> Option<(usize, &'a IValue)>
     requires { Contains token.now 126 }
     ensures position { option_map (λ found. found.0) result
@@ -260,7 +272,7 @@ fn find_member<'a>(object: &'a IObject, token: &str) -> Option<(usize, &'a IValu
     None
 }
 
-/// Returns the element at the index that a token denotes.
+/// Returns the element at the index that `token` denotes.
 fn item<'a>(items: &'a [IValue], token: &str) -> Option<&'a IValue>
     ensures { option_map (λ v. v.now.tree) result
         ≡ option_map tree_of (option_and_then (slice_get items.now) (position_named token.now)) }
@@ -271,7 +283,7 @@ fn item<'a>(items: &'a [IValue], token: &str) -> Option<&'a IValue>
     }
 }
 
-/// Returns the index that a token denotes, if it is below `count`.
+/// Returns the index that `token` denotes, if it is less than `count`.
 fn position_below(token: &str, count: usize) -> Option<usize>
     ensures some { IfSome result (λ position. (position_named token.now ≡ Some position) × (position < count)) }
     ensures none { IfNone result ((position : ℕ) → position_named token.now ≡ Some position → count ≤ position) }
@@ -290,7 +302,7 @@ fn position_below(token: &str, count: usize) -> Option<usize>
     }
 }
 
-/// Returns `true` for `0`, or digits without a leading zero.
+/// Returns `true` if `token` is `0`, or digits without a leading zero.
 fn is_position(token: &[u8]) -> bool
     ensures { result ≡ names_position token.now }
 {
@@ -301,7 +313,7 @@ fn is_position(token: &[u8]) -> bool
     }
 }
 
-/// Returns `true` if each byte is a digit.
+/// Returns `true` if all bytes are ASCII digits.
 fn all_digits(bytes: &[u8]) -> bool
     ensures { result ≡ all_ascii_digits bytes.now }
 {

@@ -1,4 +1,4 @@
--- Documents found by a test of their trees.
+-- Lemmas about finding the index of an equal document.
 use Rattle.std.proofs.Common.{◌≡◌, ℕ, zero, suc, Bool, true, false, List, [], ◌∷◌, ◌++◌, get_or}
 use Rattle.std.proofs.Common.{Option, Some, None, is_some, sym, ap, subst, ◌∙◌, inl, inr}
 use Rattle.std.proofs.lemmas.Bool.{or_parts}
@@ -16,7 +16,8 @@ use Rattle.ijson.specs.examples.Documents.{StandsAt, Stores}
 abbrev pub tests : Tree → WellFormed → Bool
 tests t v = same t v.tree
 
--- the index found
+-- If `r` is the index of the first document that passes the test for `t`, it is the index of a
+-- document that means the same as `t`.
 pub found_at : (vs : List WellFormed) (t : Tree) (r : Option ℕ) → r ≡ position (tests t) vs → IfSome r (StandsAt vs t)
 found_at vs t None is = tt
 found_at vs t (Some i) is =

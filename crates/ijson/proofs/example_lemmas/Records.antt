@@ -1,4 +1,4 @@
--- Counting the elements without an id, one by one.
+-- Lemmas about counting the elements without an id, one element at a time.
 use Rattle.std.proofs.Common.{◌≡◌, ℕ, suc, ◌+◌, ◌<◌, List, length, drop, get_or, refl, sym, subst, arith, inl, inr}
 use Rattle.ijson_value.specs.WellFormed.{WellFormed, item_trees}
 use Rattle.ijson.specs.examples.Records.{HasId, LackId}

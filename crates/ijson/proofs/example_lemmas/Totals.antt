@@ -1,4 +1,4 @@
--- The sum of the numbers of a tree: it is unique, and a loop over values computes it, value by value.
+-- The sum of the numbers of a tree is unique, and a loop over its values computes it.
 use Rattle.std.proofs.Common.{◌≡◌, ℕ, ◌+◌, ◌<◌, ◌≤◌, ◌^◌, List, [], ◌∷◌, map, refl, sym, ap, subst, ◌∙◌, arith}
 use Rattle.std.specs.Prelude.{pos}
 use Rattle.ijson_value.proofs.Walks.{one_integer}
@@ -26,7 +26,7 @@ pub values_sum : (ps : List (List ℕ × WellFormed)) → ◌≡◌ {A = ℕ →
 values_sum [] = refl
 values_sum (p ∷ ps) = ap (λ (Rest : ℕ → Type 0). λ (sum : ℕ). (x y : ℕ) × SumsTo p.1.tree x × Rest y × (sum ≡ x + y)) (values_sum ps)
 
--- `so_far` is summed of a whole, and these values are left of it
+-- Holds if the sum of the whole is `so_far` plus the sum of the values `left`.
 pub record IsLeft (Whole : ℕ → Type 0) (deepest : ℕ) (left : List WellFormed) (so_far : ℕ) : Type 0 where
   pub parts : (n : ℕ) → Whole n → (m : ℕ) × EachSumsTo (item_trees left) m × (n ≡ so_far + m)
   pub whole : (m : ℕ) → EachSumsTo (item_trees left) m → Whole (so_far + m)

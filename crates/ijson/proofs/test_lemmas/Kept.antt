@@ -1,4 +1,5 @@
--- Lists of two entries: both put, the second value written, and the rest after a closure kept the second one and wrote nothing.
+-- Lemmas about an object of two entries: after both were put, after the second value was written,
+-- and after `retain` kept only the second entry.
 use Rattle.std.proofs.Common.{◌≡◌, ◌≢◌, ◌↔◌, ℕ, List, [], ◌∷◌, length, get_or, Bool, true, false, Option, Some, None, MutBor, refl, sym, ap}
 use Rattle.std.proofs.Common.{subst, ◌∙◌, arith}
 use Rattle.std.specs.Option.{option_copied_mut, unwrap_or}
@@ -17,25 +18,25 @@ some_there : (r : Option (MutBor WellFormed)) (v : WellFormed) → option_copied
 some_there None v e = cc
 some_there (Some x) v e = cc
 
--- two keys put into an empty list, each with the value it gets if missing
+-- Two different keys are put into an empty list of entries, each with a given value.
 module _ (k₁ k₂ : List ℕ) (v₁ v₂ : WellFormed) (old ps : List (List ℕ × WellFormed)) (s : Store WellFormed) (empty : old ≡ [])
     (apart : k₁ ≢ k₂)
     (first : ps ≡ put old k₁ (unwrap_or (lookup k₁ old) v₁)) (second : s.pairs ≡ put ps k₂ (unwrap_or (lookup k₂ ps) v₂)) where
   two_put : s.pairs ≡ (k₁, v₁) ∷ (k₂, v₂) ∷ []
   two_put = simp (second, first, empty, other_bytes k₁ k₂ apart, other_bytes k₂ k₁ (λ e. apart (sym e)))
 
-  -- the second key is found
+  -- A lookup finds the second key.
   pub second_there : (r : Option (MutBor WellFormed)) → option_copied_mut r ≡ lookup k₂ s.pairs → IsSome r
   second_there r got =
       some_there r v₂ (got ∙ simp (two_put, other_bytes k₂ k₁ (λ e. apart (sym e)), (bytes_decides k₂ k₂).1 refl))
 
-  -- the second key has the value written
+  -- Writing to the second key replaces its value.
   pub second_written : (w : WellFormed) → (with_found s (at s.pairs k₂) w).pairs ≡ (k₁, v₁) ∷ (k₂, w) ∷ []
   second_written w =
       let found : at s.pairs k₂ ≡ Some 1 = simp (two_put, other_bytes k₁ k₂ apart, (bytes_decides k₂ k₂).1 refl) in
       ap (λ i. (with_found s i w).pairs) found ∙ ap (λ ps. with_value ps 1 w) two_put
 
--- a test for a true value returns false for false
+-- If `keeps` tests whether a value is `true`, it is `false` for the value `false`.
 pub tells_false : (keeps : Bool) (v : WellFormed) → v ≡ boolean_value false → (IsTrue keeps ↔ (v.tree ≡ boolean true)) → keeps ≡ false
 tells_false false v is tells = refl
 tells_false true v is tells = let said : v.tree ≡ boolean true = tells.0 cc in let was : v.tree ≡ boolean false = ap (λ x. x.tree) is in cc

@@ -1,4 +1,5 @@
--- A value whose part is lent, written by a call that returns the reference, and then the loan ends. Assumes `Logic`.
+-- A part of a value is lent, a call writes to the part and returns its reference, and the borrow
+-- ends. Assumes `Logic`.
 use mathlib.Core.List.{List, [], ◌∷◌}
 use mathlib.Core.Option as maybe
 use mathlib.Core.Path.{◌≡◌, refl}
@@ -23,13 +24,13 @@ use Rattle.ijson_value.proofs.lends.Called.{back, Kept}
 use Rattle.ijson_value.proofs.lends.LentOn.{so_none, so_some}
 use Rattle.ijson_value.proofs.lends.Variants.{Some-out}
 
--- what is known of the lender after the last write to its part, if there is one
+-- The relation between the lender and the last value of its part, or `P₀` if no part is lent.
 abbrev pub Left : {R : Type 0} → (V.Denot → R → Type 0) → (R → Type 0) → Option (MutBor V.Denot) → R → Type 0
 Left P P₀ None n = P₀ n
 Left P P₀ (Some v) n = P v.now n
 
 module _ {M : Type 1} {𝓤 : Ura M} (𝓛 : Logic 𝓤) (R : RattleType) (P : V.Denot → R.Denot → Type 0) (P₀ : R.Denot → Type 0) where
-  -- the lender's last value
+  -- When the borrow of the part ends, the lender has a value that satisfies `Left`.
   left_so : (κ : Lft) (γ : GName) (o : Option (MutBor V.Denot)) (vs : List Val)
       → ent 𝓤 (sep 𝓤 (sem 𝓛 ((OptionOf (MutRef (named 0) κ V)).own_val o vs)) (sem 𝓛 (follows_so R V γ (ghost_name_of o) P P₀)))
       (sem 𝓛 (fex ((z : R.Denot) × Left P P₀ o z) (λ s. fres γ (R.coded.code s.0))))
@@ -41,7 +42,8 @@ module _ {M : Type 1} {𝓤 : Ura M} (𝓛 : Logic 𝓤) (R : RattleType) (P : V
       use1 𝓛 (‵ (fres v.ghost_name (V.coded.code v.now))) (𝓛.names.obs-res v.ghost_name (V.coded.code v.now)) $ move ! (1 ∷ []) $
       use2 𝓛 (‵ (fex ((z : R.Denot) × P v.now z) (λ s. fres γ (R.coded.code s.0)))) (so_some 𝓛 R V P P₀ γ v.ghost_name v.now) $ done !)
 
-  -- the lender has it back
+  -- After the borrow ends, the proof continues with the lender's reference, whose value satisfies
+  -- `Left`.
   module _ {K : Type 0} {Γ : List (Item 𝓤)} {G : Goal 𝓤 𝓛.H} (t : K) (soaks : Soaks G) (κ : Lft) (q : Share) (r : MutBor R.Denot) (α : ℕ)
       (δ : GName) where
     pub written_back : (m : maybe.Option GName) (o : Option (MutBor V.Denot)) (vs : List Val) (tokens : Item 𝓤) → m ≡ ghost_name_of o

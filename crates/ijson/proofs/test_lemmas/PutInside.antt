@@ -1,4 +1,4 @@
--- The tree of an object's content after a put, and after one that failed.
+-- The tree of an object's content after a successful put, and after a failed put.
 use Rattle.std.proofs.Common.{◌≡◌, ℕ, List, sym, ap, ◌∙◌}
 use Rattle.ijson_table.specs.Store.{put}
 use Rattle.ijson_value.specs.LendsAtKey.{IsPut}

@@ -1,4 +1,5 @@
--- A value opened by reference, after its Boolean, if it is one, is negated. Assumes `Logic`.
+-- Lemmas about a value that was opened by reference and then has its Boolean negated. Assumes
+-- `Logic`.
 use Rattle.std.proofs.Common.{◌≡◌, refl, sym, ap, subst, ◌∙◌, ℕ, List, [], ◌∷◌, MutBor}
 use Rattle.std.specs.Prelude.{◌≢◌, Bool, false, not}
 use seplogic.Ra.Ura.{Ura}
@@ -36,7 +37,8 @@ abbrev truth_of : Tree → Bool
 truth_of (boolean b) = b
 truth_of t = false
 
--- what the value becomes
+-- If `IsTurned x y` holds, `y` has the negated Boolean of `x`, or the same value if `x` is not a
+-- Boolean.
 pub negated : (x y : DestructuredMut) → IsTurned x y → (v : WellFormed) → mut_value x ≡ v
     → ((t : Bool) → v ≡ boolean_value t → mut_value y ≡ boolean_value (not t)) × (kind_of v.tree ≢ kind.Bool → mut_value y ≡ v)
 negated parts.Null parts.Null is v e = ((λ t f. absurd (cc (ap (λ (w : WellFormed). w.tree) (e ∙ f)))), λ other. e)
@@ -55,7 +57,7 @@ negated (parts.Object a) (parts.Object b) is v e =
 negated x y is v e = absurd is
 
 module _ {M : Type 1} {𝓤 : Ura M} (𝓛 : Logic 𝓤) (at : NamedLft) (r : MutBor WellFormed) where
-  -- the lender's last value, if the part of one kind is left as it is
+  -- If the lent part is unchanged, the lender ends with the value of this part.
   module _ (n : ℕ) (T : RattleType) (F : T.Denot → WellFormed) where
     abbrev Leaves : MutBor T.Denot → MutBor T.Denot → List Val → Type 1
     Leaves a b vs = ent 𝓤 (sep 𝓤 (sem 𝓛 (Tagged n (MutRef at.mir at.lft T ∷ []) (b, tt) vs)) (sem 𝓛 (follows V T r.ghost_name a.ghost_name F)))
@@ -69,7 +71,7 @@ module _ {M : Type 1} {𝓤 : Ura M} (𝓛 : Logic 𝓤) (at : NamedLft) (r : Mu
         use2 𝓛 (‵ (fres r.ghost_name (V.coded.code (F a.now)))) (followed 𝓛 V T F r.ghost_name a.ghost_name a.now) $ done !)
         )
 
-  -- the lender's last value
+  -- When the borrow ends, the lender has the value of the opened parts.
   pub parts_left : (x y : DestructuredMut) (vs : List Val) → IsTurned x y → mut_value x ≡ r.now
       → ent 𝓤 (sep 𝓤 (sem 𝓛 ((PartsOf at).own_val y vs)) (sem 𝓛 (LendsParts r x))) (sem 𝓛 (fres r.ghost_name (V.coded.code (mut_value y))))
   parts_left parts.Null parts.Null vs is e = subst (λ (w : WellFormed). ent 𝓤 (sep 𝓤 (sem 𝓛 ((PartsOf at).own_val parts.Null vs))

@@ -1,10 +1,10 @@
--- Records with an id, and the number of elements of an array that are none.
+-- Records with an id, and the number of elements of an array that lack an id.
 use Rattle.std.specs.Prelude.{◌≡◌, ◌⊎◌, ◌<◌, ◌^◌, ℕ, suc, pos, Some, codes}
 use Rattle.ijson_value.specs.Integers.{HasInteger}
 use Rattle.ijson_value.specs.Step.{by_key, tree_at}
 use Rattle.ijson_value.specs.Tree.{Tree, array, Items, no_items, item}
 
--- an object with a member `id` that is a whole number from 0 to 2^64 - 1
+-- Holds if the tree is an object whose member `id` is an integer from 0 to `2 ^ 64 - 1`.
 pub record HasId (t : Tree) : Type 0 where
   pub id : Tree
   pub number : ℕ
@@ -12,13 +12,13 @@ pub record HasId (t : Tree) : Type 0 where
   pub fits : number < 2 ^ 64
   pub value : HasInteger id (pos number)
 
--- `count` of these elements have no id
+-- Holds if exactly `count` of the elements lack an id.
 abbrev pub LackId : Items → ℕ → Type 0
 LackId no_items count = count ≡ 0
 LackId (item t ts) count =
     (HasId t × LackId ts count) ⊎ ((HasId t → ⊥) × (rest : ℕ) × (count ≡ suc rest) × LackId ts rest)
 
--- an array in which `count` elements have no id
+-- Holds if the tree is an array in which exactly `count` elements lack an id.
 abbrev pub RefusesSoMany : Tree → ℕ → Type 0
 RefusesSoMany (array ts) count = LackId ts count
 RefusesSoMany _ count = ⊥

@@ -4,7 +4,8 @@ use Rattle.ijson_number.specs.Integers.{HasValue}
 use Rattle.ijson_value.specs.Tree.{Tree, number, array, object, Items, no_items, item, Members, no_members, member}
 
 abbrev mutual
-  -- each number in the tree, at any depth, is a whole number from 0, and this is their sum
+  -- Holds if every number in the tree, at any depth, is an integer that is not negative, and `sum`
+  -- is their sum.
   pub SumsTo : Tree → ℕ → Type 0
   SumsTo (number n) sum = HasValue n (pos sum)
   SumsTo (array ts) sum = EachSumsTo ts sum

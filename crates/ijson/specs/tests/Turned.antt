@@ -1,4 +1,5 @@
--- A value opened before and after its Boolean, if it is one, is negated.
+-- Holds if the opened value `y` is `x` with its Boolean negated. A value of another kind is
+-- unchanged.
 use Rattle.std.specs.Prelude.{◌≡◌, not, ⊤}
 use Rattle.ijson_value.specs.declared.value.destructure.DestructuredMut.{DestructuredMut}
 use Rattle.ijson_value.specs.declared.value.destructure.DestructuredMut.TheVariants.{Null, Bool, Number, String, Array, Object}

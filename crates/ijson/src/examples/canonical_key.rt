@@ -1,4 +1,4 @@
-//! A key of a value: the keys of two values are equal exactly if the values are.
+//! A canonical key for values: the keys of two values are equal exactly if the values are equal.
 ghost use Rattle.std.specs.Prelude.{◌≡◌, ◌↔◌, IfOk, IsTrue};
 ghost use Rattle.std.specs.String.{string_bytes};
 ghost use Rattle.ijson_extra.specs.Canonical.{canonical};
@@ -11,13 +11,13 @@ use crate::value::IValue;
 use std::alloc::{AllocError, Global};
 use std::process::Abort;
 
-/// A text that represents a value and all values equal to it.
+/// The canonical text of a value, which is the same for all values equal to it.
 #[derive(Drop, PartialEq, Eq)]
 struct CanonicalKey {
     text: String,
 }
 
-/// Returns the key of a value.
+/// Returns the canonical key of a value.
 fn key_of(alloc: Global, value: &IValue) -> Result<CanonicalKey, AllocError>
     ensures text { IfOk result (λ key. string_bytes key.text ≡ canonical value.now.tree) }
     ensures equal { IfOk result (λ key. (other : WellFormed)
@@ -27,7 +27,8 @@ fn key_of(alloc: Global, value: &IValue) -> Result<CanonicalKey, AllocError>
     Ok(CanonicalKey { text })
 }
 
-/// Returns `true` if `a` and `b` have the same canonical key, that is, if they are equal.
+/// Returns `true` if `a` and `b` have the same canonical key, which holds exactly if they are
+/// equal.
 fn same_key(alloc: Global, a: &IValue, b: &IValue) -> Result<bool, AllocError>
     ensures { IfOk result (λ same. IsTrue same ↔ Same a.now.tree b.now.tree) }
 {
@@ -36,7 +37,7 @@ fn same_key(alloc: Global, a: &IValue, b: &IValue) -> Result<bool, AllocError>
     Ok(key == other)
 }
 
-/// Two texts, and whether their values are equal.
+/// Two JSON texts, and whether their values are equal.
 static PAIRS: [(&str, &str, bool); 5] = [
     (
         "{\"b\":2.0,\"a\":[10,0.0]}",
@@ -49,7 +50,7 @@ static PAIRS: [(&str, &str, bool); 5] = [
     ("1e400", "10e399", true),
 ];
 
-/// Asserts that the values of the texts `a` and `b` have the same key if `want`, and different keys otherwise.
+/// Asserts that the values of `a` and `b` have the same key exactly if `want` is `true`.
 fn have_one_key(rt: &impl Abort, alloc: Global, a: &str, b: &str, want: bool) {
     let a = parsed(rt, alloc, a);
     let b = parsed(rt, alloc, b);

@@ -1,4 +1,4 @@
-//! Removes duplicates from a list with an `IndexSet` of values, which uses their `Hash` and `==`.
+//! Removes duplicates from an array with an `IndexSet` of values, which uses their `Hash` and `==`.
 ghost use Rattle.std.specs.Prelude.{◌≡◌, IfOk};
 ghost use Rattle.std.specs.List.{IsDistinct};
 ghost use Rattle.ijson_value.specs.SameTest.{same};
@@ -11,10 +11,11 @@ use indexmap::IndexSet;
 use std::alloc::{AllocError, Global};
 use std::process::Abort;
 
-/// Returns the elements that equal no earlier element, in order.
+/// Returns the elements that are not equal to an earlier element, in order.
 ///
-/// The returned elements are distinct, and each element of `items` equals one of them. The clauses do not fix the order, nor which of
-/// several equal elements is kept; the test shows both.
+/// The contract states that the returned elements are distinct, and that each element of `items` is
+/// equal to a returned element. The test also shows their order, and that the first of several
+/// equal elements is kept.
 fn without_repeats(alloc: Global, items: IArray) -> Result<IArray, AllocError>
     ensures distinct { IfOk result (λ kept. IsDistinct (λ a b. same a.tree b.tree) kept.items) }
     ensures each { IfOk result (λ kept. (v : WellFormed) → has_equal v kept.items ≡ has_equal v items.items) }
@@ -28,7 +29,7 @@ fn without_repeats(alloc: Global, items: IArray) -> Result<IArray, AllocError>
     Ok(kept)
 }
 
-/// Parses `text` as an array, and returns the array without duplicates.
+/// Parses `text` as an array and returns the array without duplicates.
 fn left_of(rt: &impl Abort, alloc: Global, text: &str) -> IValue {
     let items = parsed(rt, alloc, text).into_array().expect(rt, "an array");
     IValue::from(without_repeats(alloc, items).expect(rt, "memory"))

@@ -1,4 +1,4 @@
-//! A store of documents, which finds an equal one by its hash.
+//! A store of documents that finds equal documents by their hash.
 ghost use Rattle.std.specs.Prelude.{◌≡◌, ℕ, IfErr, IfNone, IfOk, IfSome, OnErr, OnOk};
 ghost use Rattle.ijson.specs.examples.Documents.{StandsAt, Stores};
 
@@ -8,7 +8,7 @@ use indexmap::IndexSet;
 use std::alloc::AllocFailed;
 use std::process::Abort;
 
-/// Returns the index of the document that equals this one.
+/// Returns the index of the stored document that is equal to `document`.
 fn find(documents: &IndexSet<IValue>, document: &IValue) -> Option<usize>
     ensures some { IfSome result (λ position. StandsAt documents.now.keys document.now.tree position) }
     ensures none { IfNone result ((position : ℕ) → StandsAt documents.now.keys document.now.tree position → ⊥) }
@@ -16,11 +16,11 @@ fn find(documents: &IndexSet<IValue>, document: &IValue) -> Option<usize>
     documents.get_index_of(document)
 }
 
-/// Appends a document unless an equal one exists, and returns the index of the one stored.
+/// Appends `document` unless an equal document is stored. Returns the index of the stored document.
 ///
 /// # Errors
 ///
-/// Returns the document if there is no capacity for it. The store stays as it was.
+/// Returns `document` if an allocation fails. The store is unchanged.
 fn store(documents: &mut IndexSet<IValue>, document: IValue) -> Result<usize, AllocFailed<IValue>>
     ensures found { IfOk result (λ position. StandsAt documents.new.keys document.tree position) }
     ensures stores { OnOk result (Stores documents.old.keys document documents.new.keys) }
@@ -31,7 +31,7 @@ fn store(documents: &mut IndexSet<IValue>, document: IValue) -> Result<usize, Al
     Ok(position)
 }
 
-/// Texts stored in order, and the index returned for each.
+/// JSON texts to store in order, and the index returned for each.
 static STORED: [(&str, usize); 6] = [
     ("{\"k\":2,\"l\":[1,{}]}", 0),
     ("[1,2]", 1),
@@ -41,13 +41,13 @@ static STORED: [(&str, usize); 6] = [
     ("{\"k\":2,\"l\":[1,null]}", 3),
 ];
 
-/// Asserts the index returned for a document.
+/// Asserts that storing `document` returns the index `want`.
 fn is_stored(rt: &impl Abort, documents: &mut IndexSet<IValue>, document: IValue, want: usize) {
     let position = store(documents, document).expect(rt, "room");
     assert!(rt; position == want);
 }
 
-/// Asserts the index at which a document is found.
+/// Asserts that `find` returns `want` for `document`.
 fn is_found(rt: &impl Abort, documents: &IndexSet<IValue>, document: IValue, want: Option<usize>) {
     assert!(rt; find(documents, &document) == want);
     drop(document);

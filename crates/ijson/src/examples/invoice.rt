@@ -1,4 +1,4 @@
-//! The total of an invoice: a sum over the lines in an array.
+//! The total of an invoice: sums the amounts of the lines in an array.
 ghost use Rattle.std.specs.Prelude.{◌≡◌, ◌≢◌, ℕ, ℤ, Err, FitsSigned, IfNone, IfOk, IfSome};
 ghost use Rattle.std.specs.Int.{w64};
 ghost use Rattle.ijson.specs.examples.Invoice.{HasAmount, IsPastTotal, IsTotal, LacksAmount};
@@ -8,18 +8,19 @@ ghost use Rattle.ijson_value.specs.declared.value.ValueType.TheVariants.{Array};
 use super::parsed;
 use crate::IValue;
 
-/// Why there is no total.
+/// The reason why an invoice does not have a total.
 #[derive(Clone, Copy, Debug, Drop, PartialEq, Eq)]
 enum TotalError {
     /// The value is not an array.
     NoArray,
-    /// The line at this index has no amount, or an amount that is not a whole number of 64 bits.
+    /// The line at this index lacks an amount, or its amount is not an integer in the range of
+    /// `i64`.
     NoAmount(usize),
     /// A running sum of the amounts overflows `i64`, even if the total would fit.
     TooLarge,
 }
 
-/// Returns the amount of a line of an invoice.
+/// Returns the amount of an invoice line, or `None` if the line lacks an amount that fits `i64`.
 fn amount_of(line: &IValue) -> Option<i64>
     ensures some { IfSome result (λ z. HasAmount line.now.tree z) }
     ensures none { IfNone result ((z : ℤ) → FitsSigned w64 z → HasAmount line.now.tree z → ⊥) }
@@ -30,7 +31,7 @@ fn amount_of(line: &IValue) -> Option<i64>
     line.get("amount")?.to_i64()
 }
 
-/// Returns the sum of the amounts of the lines in an array.
+/// Returns the sum of the amounts of the invoice lines in the array `records`.
 fn invoice_total(records: &IValue) -> Result<i64, TotalError>
     ensures total { IfOk result (λ sum. IsTotal records.now.tree sum) }
     ensures no_array { result ≡ Err TotalError.NoArray → kind_of records.now.tree ≢ Array }
@@ -53,7 +54,7 @@ fn invoice_total(records: &IValue) -> Result<i64, TotalError>
     Ok(sum)
 }
 
-/// Invoices and their totals.
+/// JSON texts of invoices, and the total or error of each.
 static INVOICES: [(&str, Result<i64, TotalError>); 11] = [
     (
         "[{\"amount\":3},{\"amount\":-1,\"note\":\"back\"},{\"amount\":4.0}]",

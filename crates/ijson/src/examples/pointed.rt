@@ -1,4 +1,5 @@
-//! The value at a JSON Pointer in a text, as text, or why there is none. A fault in the text has its line and column.
+//! Prints the value at a JSON Pointer in a JSON text. A syntax error is reported with its line and
+//! column.
 ghost use Rattle.std.specs.Prelude.{◌≡◌, ◌≢◌, Err, IfOk, Some};
 ghost use Rattle.std.specs.String.{string_bytes};
 ghost use Rattle.ijson_extra.specs.LendsResolved.{unresolved};
@@ -21,18 +22,18 @@ use std::alloc::{AllocError, Global};
 use std::hash::BuildHasher;
 use std::process::Abort;
 
-/// Why there is no text.
+/// The reason why the value was not printed.
 #[derive(Clone, Copy, Debug, Drop, PartialEq, Eq)]
 enum PointedError {
-    /// The text is not JSON within the limits.
+    /// The text is not JSON, or exceeds a limit.
     Text(LocatedError),
-    /// The pointer refers to nothing, or is no pointer.
+    /// The pointer does not refer to a value, or is not a JSON Pointer.
     Pointer(Unresolved),
     /// An allocation failed.
     Memory,
 }
 
-/// Returns the text of the value at a pointer in a value.
+/// Returns the JSON text of the value that `pointer` refers to in `value`.
 fn pointed_in(alloc: Global, value: &IValue, pointer: &str) -> Result<String, PointedError>
     ensures found { IfOk result (λ out. (t : Tree)
         × (resolved value.now.tree pointer.now ≡ Some (Some t)) × (string_bytes out ≡ print t)) }
@@ -51,7 +52,7 @@ fn pointed_in(alloc: Global, value: &IValue, pointer: &str) -> Result<String, Po
     }
 }
 
-/// Parses `text`, and returns the value at `pointer` as JSON text.
+/// Parses `text` and returns the JSON text of the value that `pointer` refers to.
 fn pointed<S: BuildHasher>(
     alloc: Global,
     cache: &mut StringCache<S>,
@@ -71,7 +72,7 @@ fn pointed<S: BuildHasher>(
     }
 }
 
-/// Texts, pointers, and the output or error message.
+/// JSON texts, pointers, and the output or error message.
 static POINTED: [(&str, &str, &str); 8] = [
     ("{\"server\":{\"port\":8080}}", "/server/port", "8080"),
     ("[1,[2.50]]", "/1", "[2.5]"),
@@ -92,7 +93,7 @@ static POINTED: [(&str, &str, &str); 8] = [
     ),
 ];
 
-/// Returns the text, or the message of the error.
+/// Returns the JSON text, or the message of the error.
 fn answer(rt: &impl Abort, alloc: Global, found: Result<String, PointedError>) -> String {
     let message = match found {
         Ok(text) => Ok(text),

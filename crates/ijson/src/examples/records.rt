@@ -1,4 +1,4 @@
-//! A validator that counts what it rejects: the elements of an array that have no id.
+//! A validator that counts the elements of an array that it rejects, because they lack an id.
 ghost use Rattle.std.specs.Prelude.{◌≢◌, ◌↔◌, IfNone, IfSome, IsTrue};
 ghost use Rattle.ijson.specs.examples.Records.{HasId, RefusesSoMany};
 ghost use Rattle.ijson_value.specs.Kind.{kind_of};
@@ -7,7 +7,7 @@ ghost use Rattle.ijson_value.specs.declared.value.ValueType.TheVariants as kind;
 use super::parsed;
 use crate::value::IValue;
 
-/// Returns `true` for an object with a member `id` that is a whole number from 0 to 2^64 - 1.
+/// Returns `true` if `value` is an object whose member `id` is an integer from 0 to `2 ^ 64 - 1`.
 fn has_id(value: &IValue) -> bool
     ensures { IsTrue result ↔ HasId value.now.tree }
 {
@@ -35,7 +35,7 @@ fn count_refused(value: &IValue) -> Option<usize>
     Some(count)
 }
 
-/// Texts, and the number of rejected elements.
+/// JSON texts, and the number of rejected elements in each.
 static REFUSED: [(&str, Option<usize>); 3] = [
     (
         "[{\"id\":7},{\"id\":0.0,\"name\":\"a\"},{\"id\":-1},{\"id\":1.5},{\"id\":\"7\"},{\"name\":\"b\"},7,\

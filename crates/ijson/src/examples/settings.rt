@@ -1,4 +1,4 @@
-//! Settings overlaid on defaults: each member of one object replaces that of the other.
+//! Overlays settings on defaults: an entry of the settings replaces the default of the same key.
 ghost use Rattle.std.specs.Prelude.{◌≡◌, ◌≢◌, ◌⊎◌, ℕ, List, IfOk, IsFalse, IsTrue, OnErr};
 ghost use Rattle.std.specs.Option.{option_or};
 ghost use Rattle.ijson_value.specs.Kind.{kind_of};
@@ -11,14 +11,14 @@ use crate::object::RefusedPair;
 use std::alloc::Global;
 use std::process::Abort;
 
-/// Writes each setting of `over` into `base`, and keeps its other settings.
+/// Inserts each setting of `over` into `base`. All other settings of `base` are unchanged.
 ///
-/// Returns `false` and leaves `base` as it was if `base` or `over` is not an object. Its proof uses `at_key-over` of `ijson_value`
-/// (`proofs/examples/settings`).
+/// Returns `false` if `base` or `over` is not an object, and leaves `base` unchanged. The proof
+/// (`proofs/examples/settings`) uses the lemma `at_key-over` of `ijson_value`.
 ///
 /// # Errors
 ///
-/// Returns the setting that there is no capacity for.
+/// Returns the setting for which an allocation failed.
 fn overlay(base: &mut IValue, over: IValue) -> Result<bool, RefusedPair>
     ensures laid_over { IfOk result (λ done. IsTrue done → (key : List ℕ)
         → tree_at base.new.tree (by_key key)
@@ -38,7 +38,7 @@ fn overlay(base: &mut IValue, over: IValue) -> Result<bool, RefusedPair>
     Ok(true)
 }
 
-/// Defaults, settings, the defaults with the settings, and whether both are objects.
+/// JSON texts of the defaults, the settings and the result, and whether both are objects.
 static LAID_OVER: [(&str, &str, &str, bool); 5] = [
     (
         "{\"a\":1,\"b\":2}",
@@ -52,7 +52,7 @@ static LAID_OVER: [(&str, &str, &str, bool); 5] = [
     ("{\"b\":3}", "null", "{\"b\":3}", false),
 ];
 
-/// Returns defaults overlaid with settings, both given as texts, and the result of the call.
+/// Overlays the JSON text `over` on `base`. Returns the value and the result of the call.
 fn laid_over(rt: &impl Abort, alloc: Global, base: &str, over: &str) -> (IValue, bool) {
     let mut value = parsed(rt, alloc, base);
     let done = overlay(&mut value, parsed(rt, alloc, over)).expect(rt, "room");

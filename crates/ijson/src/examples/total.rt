@@ -1,4 +1,4 @@
-//! A recursion that sums the numbers of a value.
+//! A recursive function that sums the numbers in a value.
 ghost use Rattle.std.specs.Prelude.{◌<◌, ◌^◌, ℕ, IfNone, IfSome};
 ghost use Rattle.ijson.specs.examples.Total.{EachSumsTo, SumsTo, ValuesSumTo};
 ghost use Rattle.ijson_value.specs.WellFormed.{item_trees, pair_trees};
@@ -9,7 +9,7 @@ use crate::value::{DestructuredRef, IValue};
 
 /// Returns the sum of the numbers in a value, at any depth.
 ///
-/// Returns `None` if one of them is negative or not whole, or if the sum is 2^64 or more.
+/// Returns `None` if a number is negative or not an integer, or if the sum is at least `2 ^ 64`.
 #[cycle(total)]
 fn total(value: &IValue) -> Option<u64>
     ensures some { IfSome result (λ sum. SumsTo value.now.tree sum) }
@@ -47,7 +47,7 @@ fn total_of_members(object: &IObject) -> Option<u64>
     Some(sum)
 }
 
-/// Texts, and the sum of the numbers in each.
+/// JSON texts, and the sum of the numbers in each.
 static TOTALS: [(&str, Option<u64>); 6] = [
     (
         "{\"apples\":3,\"pears\":[1,2.0,{\"green\":4}],\"note\":\"7\",\"more\":[[],null,true,1e1]}",

@@ -1,4 +1,4 @@
--- The entries of an object, created in order.
+-- Lemmas about the entries of an object that are created in order.
 use Rattle.std.proofs.Common.{◌≡◌, ℕ, List, [], ◌∷◌, ◌++◌, length, map, ap, ap₂, sym, subst, ◌∙◌}
 use Rattle.std.proofs.lemmas.List.{length-map, map-append}
 use Rattle.std.proofs.lemmas.Simd.{map-map}
@@ -13,19 +13,21 @@ use Rattle.ijson_convert.specs.Interned.{all_interned, SomeInterned}
 use Rattle.ijson_convert.specs.TextsOf.{texts_of, members_texts}
 use Rattle.ijson_convert.proofs.Interning.{entry_strings, one_interned, one_begun}
 
--- the entries `ps` have the keys and trees of `given`, and the strings of `given` are interned
+-- Holds if the entries `ps` have the keys and trees of `given`, and the strings of `given` were
+-- interned.
 pub record SoFar {X : Type 0} (pair : X → List ℕ × Tree) (old : Texts) (ps : List (List ℕ × WellFormed)) (given : List X) (cache : Texts) : Type 0 where
   pub pairs : map pair_tree ps ≡ map pair given
   pub texts : cache ≡ all_interned (members_texts (members_of (map pair given))) old
 
 module _ {X : Type 0} {pair : X → List ℕ × Tree} {old : Texts} {ps : List (List ℕ × WellFormed)} {given : List X} {cache : Texts}
     (so_far : SoFar pair old ps given cache) where
-  -- `ps` and `given` are equally long
+  -- `ps` and `given` have the same length.
   pub as_many : length ps ≡ length given
   as_many = sym (length-map ps pair_tree) ∙ ap length so_far.pairs ∙ length-map given pair
 
   module _ (x : X) {k : List ℕ} (is : k ≡ (pair x).0) where
-    -- creating the entry of `x` extends `SoFar` to `given ++ x ∷ []`
+    -- If the entry of `x` is appended and its strings are interned, `SoFar` holds for
+    -- `given ++ x ∷ []`.
     pub one_more : (p : List ℕ × WellFormed) → p.0 ≡ k → p.1.tree ≡ (pair x).1 → {ps' : List (List ℕ × WellFormed)} → ps' ≡ ps ++ p ∷ []
         → {given' : List X} → given' ≡ given ++ x ∷ [] → {new : Texts} → new ≡ all_interned (k ∷ texts_of (pair x).1) cache
         → SoFar pair old ps' given' new
@@ -38,13 +40,15 @@ module _ {X : Type 0} {pair : X → List ℕ × Tree} {old : Texts} {ps : List (
           ∙ ap (λ xs. all_interned (members_texts (members_of (map pair xs))) old) (sym grown);
     }
 
-    -- after the strings of `given`, interning some first strings of `x` is interning some first strings of all entries
+    -- If some leading strings of the entry `x` were interned, so were some leading strings of all
+    -- entries.
     pub one_refused : {all : List X} (rest : List X) → all ≡ given ++ x ∷ rest → {new : Texts}
         → SomeInterned (k ∷ texts_of (pair x).1) cache new → SomeInterned (members_texts (members_of (map pair all))) old new
     one_refused {all} rest parts {new} s = one_begun (entry_strings pair) given x old cache new so_far.texts rest all (sym parts)
         (subst (λ j. SomeInterned (j ∷ texts_of (pair x).1) cache new) is s)
 
-  -- if the given keys are distinct, inserting the entries in order gives the object of exactly these entries
+  -- If the keys are distinct, inserting the entries in order creates the object of exactly these
+  -- entries.
   pub all_put : IsDistinct (map (λ x. (pair x).0) given) → {made : List (List ℕ × WellFormed)} → made ≡ put_each [] ps
       → object_tree made ≡ object (members_of (map pair given))
   all_put distinct puts =

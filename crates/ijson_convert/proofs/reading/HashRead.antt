@@ -1,4 +1,4 @@
--- Reading members into a hash map, whose entries have an order of their own.
+-- Lemmas about reading members into a hash map, whose order is not the order of the members.
 use Rattle.std.proofs.Common.{◌≡◌, ◌++◌, ℕ, suc, List, [], ◌∷◌, length, cond, refl, ap, sym, subst, ◌∙◌, inl, inr, false, arith, IsPermutation}
 use mathlib.Core.Bool.{true≢false}
 use Rattle.std.specs.HashMap.{HashMap, PutsEntry, get, values}
@@ -19,11 +19,11 @@ use Rattle.ijson_convert.proofs.pairs.PairTrees.{has_more, has_middle, len_last}
 use Rattle.ijson_convert.proofs.reading.MembersRead.{map_members, no_member, widened}
 
 module _ {X : Type 0} (tree : X → Tree) where
-  -- an entry has one of these members with its key and the same value
+  -- Holds if `qs` has a member with the key of `e` and a value that means the same.
   abbrev IsAmong : Members → String Global × X → Type 0
   IsAmong qs e = (u : Tree) × Has (string_bytes e.0) u qs × Same (tree e.1) u
 
-  -- each entry has one, as a property of a list and by recursion
+  -- If every map entry means the same as a member in `qs`, `IsAmong qs` holds for each entry.
   each_among : (qs : Members) (es : List (String Global × X)) → SameIn (map_members tree es) qs → All (IsAmong qs) es
   each_among qs [] s = All-nil (IsAmong qs)
   each_among qs (e ∷ es) s = All-cons (IsAmong qs) e es s.0 (each_among qs es s.1)
@@ -37,7 +37,8 @@ module _ {X : Type 0} (tree : X → Tree) where
   members_count [] = refl
   members_count (e ∷ es) = ap suc (members_count es)
 
-  -- entries whose keys are all members' do not have a key that the members lack
+  -- If `qs` lacks a key and every map entry means the same as a member in `qs`, a lookup of the key
+  -- fails.
   missing : (qs : Members) (key : String Global) → ((u : Tree) → Has (string_bytes key) u qs → ⊥)
       → (es : List (String Global × X)) → SameIn (map_members tree es) qs → (u : X) → Some u ≡ lookup (string_eq key) es → ⊥
   missing qs key lacks [] s u is = cc
@@ -69,13 +70,15 @@ module _ {X : Type 0} (tree : X → Tree) where
     put_at (Some u) found puts =
         absurd (missing (pair_trees done) key (λ w h. no_member done key k w is lacks h) m.entries s.1 u found)
 
-    -- a map after a new entry is inserted, and the members with theirs, mean the same
+    -- If `m` means the same as the members `done`, then after the insertion of a new key the map
+    -- `n` means the same as `done` with this key's member.
     pub put_same : {E : Type 0} (r : Result (Option X) E) → is_err r ≡ false → IfOk r (λ old. old ≡ get string_eq m key)
         → IfOk r (PutsEntry string_eq m n key x) → Same (map_tree tree n.entries) (object_tree (done ++ (k, v) ∷ []))
     put_same (Ok old) ok found puts = put_at old found puts
     put_same (Err e) ok found puts = absurd (true≢false ok)
 
--- a property of the values that the inserted value has too
+-- If `P` holds for the values of a map and for the inserted value, `P` holds for all values
+-- afterwards.
 pub put_all : {X S E : Type 0} (P : X → Type 0) (m n : HashMap (String Global) X S) (key : String Global) (x : X)
     (r : Result (Option X) E) → is_err r ≡ false → IfOk r (PutsEntry string_eq m n key x) → All P (values m) → P x → All P (values n)
 put_all P m n key x (Ok old) ok puts a p = All-values-PutsEntry string_eq P m n key x old puts a p

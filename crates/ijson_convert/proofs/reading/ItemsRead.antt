@@ -1,4 +1,4 @@
--- Reading elements in order.
+-- Lemmas about reading elements in order.
 use Rattle.std.proofs.Common.{◌≡◌, ◌<◌, ◌+◌, ℕ, List, [], ◌∷◌, ◌++◌, length, take, drop, map, get_or, ap, sym, subst, ◌∙◌, inl, inr}
 use Rattle.std.proofs.lemmas.List.{append_assoc, map-append, map_more, take-append-drop}
 use Rattle.ijson_value.specs.Same.{Same, SameEach}
@@ -8,7 +8,8 @@ use Rattle.ijson_convert.specs.IsRead.{IsRead}
 use Rattle.ijson_convert.specs.Refused.{FirstRefused}
 use Rattle.ijson_convert.specs.declared.convert_error.ConvertError.{ConvertError}
 
--- one more element means the same
+-- If two lists of trees mean the same and `t` means the same as `u`, the lists with `t` and `u`
+-- appended mean the same.
 pub each_pushed : (ts us : List Tree) (t u : Tree) → SameEach (items_of ts) (items_of us) → Same t u
     → SameEach (items_of (ts ++ t ∷ [])) (items_of (us ++ u ∷ []))
 each_pushed [] [] t u h s = (s, tt)
@@ -17,11 +18,11 @@ each_pushed (w ∷ ts) [] t u h s = absurd h
 each_pushed (w ∷ ts) (v ∷ us) t u h s = (h.0, each_pushed ts us t u h.1 s)
 
 module _ (Refused : Tree → ConvertError → Type 0) where
-  -- none of these is rejected
+  -- Holds if every tree of the list is accepted.
   abbrev pub AllRead : List Tree → Type 0
   AllRead ts = (e : ConvertError) → FirstRefused Refused (items_of ts) e → ⊥
 
-  -- one more element is read
+  -- If all trees of `ts` and the tree `t` are accepted, so are all trees of `ts ++ t ∷ []`.
   pub read_pushed : (ts : List Tree) (t : Tree) → AllRead ts → IsRead Refused t → AllRead (ts ++ t ∷ [])
   read_pushed [] t h r = λ e f. elim f [ inl here ↦ r e here | inr later ↦ later.1 ]
   read_pushed (u ∷ ts) t h r = λ e f. elim f [
@@ -29,7 +30,8 @@ module _ (Refused : Tree → ConvertError → Type 0) where
     | inr later ↦ read_pushed ts t (λ d g. h d (inr (later.0, g))) r e later.1
   ]
 
-  -- the first rejected one, after those that are read
+  -- If all trees of `ts` are accepted and `t` is rejected, a list that begins with `ts` and `t` is
+  -- rejected with the error of `t`.
   pub refused_behind : (ts : List Tree) (t : Tree) (more : List Tree) (e : ConvertError) → AllRead ts → Refused t e
       → FirstRefused Refused (items_of (ts ++ t ∷ more)) e
   refused_behind [] t more e a r = inl r
@@ -37,7 +39,8 @@ module _ (Refused : Tree → ConvertError → Type 0) where
       let read : IsRead Refused u = λ c x. a c (inl x) in
       inr (read, refused_behind ts t more e (λ c f. a c (inr (read, f))) r)
 
-  -- the first rejected element is that of the list
+  -- If the first `i` elements are accepted and element `i` is rejected, the list is rejected with
+  -- the error of element `i`.
   pub first_refused : (vs : List WellFormed) (i : ℕ) (d : WellFormed) (e : ConvertError) → i < length vs
       → AllRead (map tree_of (take i vs)) → Refused (tree_of (get_or vs i d)) e
       → FirstRefused Refused (items_of (map tree_of vs)) e

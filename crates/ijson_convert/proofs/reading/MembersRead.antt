@@ -1,4 +1,4 @@
--- Reading members into a map, in order.
+-- Lemmas about reading members into a map, in order.
 use Rattle.std.proofs.Common.{◌≡◌, ℕ, suc, List, [], ◌∷◌, ◌++◌, map, refl, ap, sym, subst, ◌∙◌}
 use Rattle.std.specs.BTreeMap.{insert_entry}
 use Rattle.std.specs.Ordering.{match_ordering}
@@ -23,28 +23,29 @@ use Rattle.ijson_convert.specs.declared.convert_error.ConvertError.{ConvertError
 use Rattle.ijson_convert.proofs.pairs.PairTrees.{has_more, has_middle, len_last, key_is_new}
 use Rattle.ijson_convert.proofs.reading.ItemsRead.{AllRead, read_pushed, refused_behind}
 
--- the trees of the values of entries
+-- The trees of the values of entries, in order.
 abbrev pub value_trees : List (List ℕ × WellFormed) → List Tree
 value_trees ps = map (λ p. tree_of p.1) ps
 
--- the values of members are the elements of their trees
+-- The values of the members of `ps` are the trees of the values of `ps`.
 values_are : (ps : List (List ℕ × WellFormed)) → member_values (pair_trees ps) ≡ items_of (value_trees ps)
 values_are [] = refl
 values_are (p ∷ ps) = ap (Items.item p.1.tree) (values_are ps)
 
--- members that lack a key have no entry with it
+-- If the entries `done` lack the key, so do their members.
 pub no_member : (done : List (List ℕ × WellFormed)) (key : String Global) (k : List ℕ) (u : Tree) → string_bytes key ≡ k
     → Lacks k (keys_of done) → Has (string_bytes key) u (pair_trees done) → ⊥
 no_member done key k u is lacks h =
     lacks_it k u (pair_trees done) (subst (Lacks k) (sym (member_keys-pairs done)) lacks) (subst (λ j. Has j u (pair_trees done)) is h)
 
--- members that are the same as some of the old ones are the same as some of the new ones
+-- If `new` includes all members of `old`, and each member of `ps` means the same as a member of
+-- `old`, then each member of `ps` means the same as a member of `new`.
 module _ (old new : Members) (grows : (k : List ℕ) (u : Tree) → Has k u old → Has k u new) where
   pub widened : (ps : Members) → SameIn ps old → SameIn ps new
   widened no_members s = tt
   widened (member k t ps) s = ((s.0.0, grows k s.0.0 s.0.1, s.0.2), widened ps s.1)
 
--- ---- one more entry of the map
+-- Inserting a new key into a map adds one member.
 module _ {X : Type 0} (tree : X → Tree) where
   abbrev pub map_members : List (String Global × X) → Members
   map_members es = members_of (map (pair_tree tree) es)
@@ -70,7 +71,8 @@ module _ {X : Type 0} (tree : X → Tree) where
               (ap suc rest.0, ((s.0.0, grows (string_bytes e.0) s.0.0 s.0.1, s.0.2), rest.1))
         ] refl
 
-  -- the map with the entry and the members with theirs mean the same, if the key is new
+  -- If a map means the same as `done` and the key is new, the map with the entry means the same as
+  -- `done` with a member that means the same.
   pub member_same : (es grown : List (String Global × X)) (done : List (List ℕ × WellFormed)) (key : String Global) (k : List ℕ) (x : X)
       (v : WellFormed)
       → grown ≡ insert_entry string_cmp es key x → string_bytes key ≡ k → Lacks k (keys_of done)
@@ -83,7 +85,8 @@ module _ {X : Type 0} (tree : X → Tree) where
       subst (λ l. Same (map_tree tree l) (object_tree (done ++ (k, v) ∷ []))) (sym put)
       (more.0 ∙ ap suc s.0 ∙ sym (len_last done (k, v)), more.1)
 
--- ---- the members of an object so far are read, the map means the same, and each null in it that may be None is
+-- Holds if the members `done` of the object are accepted, the map `es` means the same as `done`,
+-- and `NullIsNone` holds for all values of the map.
 pub record ReadSoFar {X : Type 0} (tree : X → Tree) (Refused : Tree → ConvertError → Type 0) (NullIsNone : X → Type 0)
     (object : WellFormed) (left : List (List ℕ × WellFormed)) (es : List (String Global × X)) : Type 0 where
   pub done : List (List ℕ × WellFormed)
@@ -113,7 +116,7 @@ module _ {X : Type 0} {tree : X → Tree} {Refused : Tree → ConvertError → T
           let distinct = (subst IsWellFormed here object.well_formed).0 in
           key_is_new so_far.done k v left _ refl (subst IsDistinct (member_keys-pairs (so_far.done ++ (k, v) ∷ left)) distinct)
 
-      -- one more member is read
+      -- If the next member is read, `ReadSoFar` holds with this member in `done`.
       pub one_read : {grown : List (String Global × X)} → Same (map_tree tree grown) (object_tree (so_far.done ++ (k, v) ∷ []))
           → IsRead Refused v.tree → All NullIsNone (values_of grown) → ReadSoFar tree Refused NullIsNone object left grown
       one_read same read none = record {
@@ -125,7 +128,7 @@ module _ {X : Type 0} {tree : X → Tree} {Refused : Tree → ConvertError → T
         none = none;
       }
 
-      -- if a member is rejected, so is the object
+      -- If a member is rejected, the object is rejected with the same error.
       pub one_refused : {e : ConvertError} → Refused v.tree e → MapRefused Refused object.tree e
       one_refused {e} refused =
           subst (λ t. MapRefused Refused t e) (sym here)
@@ -133,7 +136,7 @@ module _ {X : Type 0} {tree : X → Tree} {Refused : Tree → ConvertError → T
           (sym (values_are (so_far.done ++ (k, v) ∷ left) ∙ ap items_of (map-append (λ p. tree_of p.1) so_far.done ((k, v) ∷ left))))
           (refused_behind Refused (value_trees so_far.done) v.tree (value_trees left) e so_far.read refused))
 
-    -- all members are read
+    -- If the iterator has ended, the map means the same as the object, and the object is accepted.
     pub all_read : it ≡ [] → Same (map_tree tree es) object.tree × IsRead (MapRefused Refused) object.tree
     all_read none =
         let done = sym (so_far.parts ∙ ap (λ l. object_tree (so_far.done ++ l)) none ∙ ap object_tree (append-nil so_far.done)) in (

@@ -1,4 +1,4 @@
--- Values of `serde_json` that mean the same as trees, part by part.
+-- Lemmas about `serde_json` values that mean the same as JSON trees, for arrays and objects.
 use Rattle.std.proofs.Common.{◌≡◌, ◌≢◌, ℕ, List, [], ◌∷◌, ◌++◌, suc, refl, ap, sym, subst, ◌∙◌, inl, inr}
 use Rattle.std.specs.declared.cmp.Ordering.TheVariants.{Less, Equal, Greater}
 use Rattle.std.specs.Cmp.Lexicographic.{slice_cmp}
@@ -20,7 +20,7 @@ use Rattle.ijson_convert.proofs.pairs.PairTrees.{has_more, has_middle, len_last}
 use Rattle.ijson_convert.proofs.reading.MembersRead.{widened}
 use Rattle.ijson_convert.specs.SerdeTree.{SerdeTree, SerdeItems, SerdeMembers, SerdeMeans, NoSerdeMeans}
 
--- ---- lists
+-- If two lists mean the same and `v` means `u`, the lists with `v` and `u` appended mean the same.
 push_item : (vs : List Value) (us : List WellFormed) (v : Value) (u : WellFormed) (ts : Items) → AreWellFormed ts
     → SerdeItems (items_view vs) ts → SameEach ts (item_trees us) → SerdeMeans (view v) u.tree
     → (rs : Items) × AreWellFormed rs × SerdeItems (items_view (vs ++ v ∷ [])) rs
@@ -34,14 +34,15 @@ push_item (x ∷ vs) (y ∷ us) v u (item t ts) w h s m =
     let r = push_item vs us v u ts w.1 h.1 s.1 m in
     (item t r.0, (w.0, r.1), (h.0, r.2), (s.0, r.3))
 
--- if arrays mean the same and `v` means `u`, the arrays with `v` and `u` appended mean the same
+-- If two arrays mean the same and `v` means `u`, the arrays with `v` and `u` appended mean the
+-- same.
 pub array_means : (vs : List Value) (us : List WellFormed) (v : Value) (u : WellFormed)
     → SerdeMeans (serde.array (items_view vs)) (array_tree us) → SerdeMeans (view v) u.tree
     → SerdeMeans (serde.array (items_view (vs ++ v ∷ []))) (array_tree (us ++ u ∷ []))
 array_means vs us v u (array ts, w, h, s) m = let r = push_item vs us v u ts w h s m in (array r.0, r.1, r.2, r.3)
 array_means vs us v u (t, w, h, s) m = absurd h
 
--- no serde elements mean a list that has an element without a meaning
+-- If no `serde_json` value means `u`, no `serde_json` list means a list that contains `u`.
 items_unmeant : (before : List WellFormed) (u : WellFormed) (left : List WellFormed) → NoSerdeMeans u.tree
     → (ds : serde.Items) (ts : Items) → AreWellFormed ts → SerdeItems ds ts
     → SameEach ts (item_trees (before ++ u ∷ left)) → ⊥
@@ -52,14 +53,14 @@ items_unmeant before u left never serde.no_items (item t ts) w h s = h
 items_unmeant [] u left never ds no_items w h s = s
 items_unmeant (x ∷ before) u left never ds no_items w h s = s
 
--- an array that has an element without a meaning has no meaning
+-- If no `serde_json` value means `u`, no `serde_json` value means an array that contains `u`.
 pub array_unmeant : (before : List WellFormed) (u : WellFormed) (left : List WellFormed) → NoSerdeMeans u.tree
     → NoSerdeMeans (array_tree (before ++ u ∷ left))
 array_unmeant before u left never (serde.array ds) (array ts, w, h, s) = items_unmeant before u left never ds ts w h s
 array_unmeant before u left never d (array ts, w, h, s) = h
 array_unmeant before u left never d (t, w, h, s) = s
 
--- ---- one more member: qs is ps with t inserted at the new key k, which has a partner in the new entries
+-- `new` includes all members of `old`, and a member with the key `k` that means the same as `t`.
 module _ (old new : Members) (grows : (j : List ℕ) (u : Tree) → Has j u old → Has j u new) (k : List ℕ) (d : Data) (t : Tree)
     (partner : (u : Tree) × Has k u new × Same t u) where
   record Added (ps qs : Members) : Type 0 where
@@ -69,7 +70,7 @@ module _ (old new : Members) (grows : (j : List ℕ) (u : Tree) → Has j u old 
     distinct : Lacks k (member_keys ps) → IsDistinct (member_keys ps) → IsDistinct (member_keys qs)
     well : IsWellFormed t → HaveWellFormed ps → HaveWellFormed qs
 
-  -- a member inserted first
+  -- Inserting the member as the first member of `ps` satisfies `Added`.
   added_first : (ps : Members) → Added ps (member k t ps)
   added_first ps = record {
     len = refl;
@@ -79,7 +80,7 @@ module _ (old new : Members) (grows : (j : List ℕ) (u : Tree) → Has j u old 
     well = λ w v. (w, v);
   }
 
-  -- a member inserted after another member
+  -- If `Added ps qs` holds, it also holds after the same member is prepended to `ps` and `qs`.
   added_later : (ps qs : Members) (i : List ℕ) (v : Tree) → Added ps qs → Added (member i v ps) (member i v qs)
   added_later ps qs i v a = record {
     len = ap suc a.len;
@@ -89,7 +90,8 @@ module _ (old new : Members) (grows : (j : List ℕ) (u : Tree) → Has j u old 
     well = λ w h. (h.0, a.well w h.1);
   }
 
-  -- if members `ms` mean `ps`, then `serde.put k d ms` means `ps` with the member added
+  -- If `ms` has the trees `ps` and lacks `k`, `serde.put k d ms` has the trees `ps` with the member
+  -- added.
   added : (ms : serde.Members) (ps : Members) → SerdeMembers ms ps → SerdeTree d t → Lacks k (member_keys ps)
       → (qs : Members) × SerdeMembers (serde.put k d ms) qs × Added ps qs
   added serde.no_members no_members h s l = (member k t no_members, (refl, s, tt), added_first no_members)
@@ -105,14 +107,15 @@ module _ (old new : Members) (grows : (j : List ℕ) (u : Tree) → Has j u old 
             (member j u r.0, (h.0, h.1, r.1), added_later ps r.0 j u r.2)
       ] refl
 
--- ---- objects
--- a key that `qs` lacks is missing from members that are all in `qs`
+-- If `qs` lacks a key, and each member of `ps` means the same as a member of `qs`, then `ps` lacks
+-- the key.
 lacks_inside : (k : List ℕ) (ps qs : Members) → SameIn ps qs → Lacks k (member_keys qs) → Lacks k (member_keys ps)
 lacks_inside k no_members qs s l = tt
 lacks_inside k (member j t ps) qs s l =
     (λ e. lacks_it k s.0.0 qs l (subst (λ i. Has i s.0.0 qs) (sym e) s.0.1), lacks_inside k ps qs s.1 l)
 
--- if objects mean the same and `d` means `p.1`, the objects with the entry of the new key `p.0` mean the same
+-- If two objects mean the same and `d` means the value of `p`, the objects with the new entry `p`
+-- mean the same.
 pub object_means : (es : serde.Members) (done : List (List ℕ × WellFormed)) (d : Data) (p : List ℕ × WellFormed)
     → Lacks p.0 (keys_of done) → SerdeMeans d p.1.tree → SerdeMeans (serde.object es) (object_tree done)
     → SerdeMeans (serde.object (serde.put p.0 d es)) (object_tree (done ++ p ∷ []))
@@ -124,7 +127,8 @@ object_means es done d p lacks m (object ps, w, h, s) =
     (object a.0, (a.2.distinct without w.0, a.2.well m.1 w.1), a.1, (a.2.len ∙ ap suc s.0 ∙ sym (len_last done p), a.2.same s.1))
 object_means es done d p lacks m (t, w, h, s) = absurd h
 
--- the tree of each member is the tree of a serde value
+-- If an object has a `serde_json` value, the tree of each member is the tree of a `serde_json`
+-- value.
 child : (ms : serde.Members) (ps : Members) (k : List ℕ) (t : Tree) → SerdeMembers ms ps → Has k t ps
     → (d : Data) × SerdeTree d t
 child serde.no_members no_members k t h q = absurd q
@@ -135,7 +139,7 @@ child (serde.member i d ms) (member j u ps) k t h q = elim q [
   | inr n ↦ child ms ps k t h.2 n
 ]
 
--- an object with a member without a serde meaning has no serde meaning
+-- If no `serde_json` value means `u`, no `serde_json` value means an object with a member `u`.
 pub object_unmeant : (qs : Members) → IsWellFormed (object qs) → (k : List ℕ) (u : Tree) → IsWellFormed u → Has k u qs → NoSerdeMeans u
     → NoSerdeMeans (object qs)
 object_unmeant qs well k u is has never (serde.object ms) (object ps, w, h, s) =

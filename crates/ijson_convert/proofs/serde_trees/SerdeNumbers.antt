@@ -1,4 +1,4 @@
--- Numbers of `serde_json`.
+-- Lemmas about the numbers of `serde_json`.
 use Rattle.std.proofs.Common.{◌≡◌, ◌<◌, ◌^◌, ◌∙◌, ℕ, Some, None, refl, sym, ap, subst, arith}
 use Rattle.std.specs.Prelude.{ℤ, pos, negsuc, FitsSigned}
 use Rattle.std.specs.declared.cmp.Ordering.TheVariants.{Equal}
@@ -20,26 +20,26 @@ use Rattle.ijson_convert.specs.laws.Integers.{integer_num, signed_is, unsigned_i
 use Rattle.ijson_convert.specs.laws.Whole.{has_too}
 use Rattle.ijson_convert.proofs.Whole.{has_same}
 
--- the number of a `u64` is a Num
+-- The decimal of a `u64` is a valid number.
 unsigned_num : (n : ℕ) → n < 2 ^ 64 → IsNum (integer_number (pos n))
 unsigned_num n h = integer_num (pos n) h (λ e. unsigned_fits n h)
 
--- the number of an `i64` is a Num
+-- The decimal of an `i64` is a valid number.
 signed_num : (z : ℤ) → FitsSigned w64 z → IsNum (integer_number z)
 signed_num z h = integer_num z (signed_small z h) (λ e. let t = signed_fits z h in cc)
 
--- a number of `serde_json` means a number of its value, if it has a tree
+-- If a `serde_json` number has the tree of `z` and `u` has the value `z`, the two mean the same.
 integer_means : (m : serde.Num) (z : ℤ) (u : Decimal) → SerdeNumber m (integer_number z) → IsNum (integer_number z) → HasValue u z
     → SerdeMeans (serde.number m) (number u)
 integer_means m z u tree is h = (number (integer_number z), is, tree, has_same (integer_number z) u z (integer_value z) h)
 
--- an unsigned one does
+-- An unsigned `serde_json` number means every JSON number that has its value.
 pub means_unsigned : (m : serde.Num) (n : ℕ) (u : Decimal) → m ≡ serde.unsigned n → n < 2 ^ 64 → HasValue u (pos n)
     → SerdeMeans (serde.number m) (number u)
 means_unsigned m n u is small =
     integer_means m (pos n) u (subst (λ k. SerdeNumber k (integer_number (pos n))) (sym is) (small, refl)) (unsigned_num n small)
 
--- and so does a signed one
+-- The `serde_json` number of a signed integer means every JSON number that has its value.
 pub means_signed : (m : serde.Num) (z : ℤ) (u : Decimal) → m ≡ of_integer z → FitsSigned w64 z → HasValue u z
     → SerdeMeans (serde.number m) (number u)
 means_signed m (pos n) u is fits = means_unsigned m n u is (omega arith)
@@ -48,7 +48,8 @@ means_signed m (negsuc n) u is fits =
 
 module _ (u : Decimal) (no_unsigned : (n : ℕ) → n < 2 ^ 64 → HasValue u (pos n) → ⊥)
     (no_signed : (z : ℤ) → FitsSigned w64 z → HasValue u z → ⊥) where
-  -- a number that is neither a `u64` nor an `i64` has no meaning
+  -- If the value of `u` is not an integer in the range of `u64` or `i64`, no `serde_json` number
+  -- means `u`.
   pub number_unmeant : NoSerdeMeans (number u)
   number_unmeant (serde.number (serde.unsigned n)) (number k, w, h, s) =
       no_unsigned n h.0 (has_too (integer_number (pos n)) u (pos n) (integer_value (pos n))
@@ -59,7 +60,7 @@ module _ (u : Decimal) (no_unsigned : (n : ℕ) → n < 2 ^ 64 → HasValue u (p
   number_unmeant d (number k, w, h, s) = h
   number_unmeant d (t, w, h, s) = s
 
--- a number of `serde_json` that is a `u64` has a tree
+-- If a `serde_json` number is a `u64`, its tree is the number created from this `u64`.
 pub unsigned_here : (m : serde.Num) (k : ℕ) (n : Num) → as_u64 m ≡ Some k → k < 2 ^ 64 → IsInteger n.decimal (pos k)
     → SerdeNumber m n.decimal
 unsigned_here (serde.unsigned m) k n e small i =
@@ -68,7 +69,7 @@ unsigned_here (serde.unsigned m) k n e small i =
 unsigned_here (serde.negative z) k n e small i = absurd (cc)
 unsigned_here (serde.float x) k n e small i = absurd (cc)
 
--- a number of `serde_json` that is an `i64` below zero has a tree
+-- If a `serde_json` number is a negative `i64`, its tree is the number created from this `i64`.
 pub signed_here : (m : serde.Num) (z : ℤ) (n : Num) → as_u64 m ≡ None → as_i64 m ≡ Some z → FitsSigned w64 z
     → IsInteger n.decimal (cast_signed w64 (cast_unsigned w64 z)) → SerdeNumber m n.decimal
 signed_here (serde.unsigned k) z n none e fits i = absurd (cc)
@@ -78,7 +79,7 @@ signed_here (serde.negative y) z n none e fits i =
     (subst (FitsSigned w64) (sym same) fits, is ∙ ap integer_number (sym same))
 signed_here (serde.float x) z n none e fits i = absurd (cc)
 
--- one that is neither has none
+-- If a `serde_json` number is not a `u64` or an `i64`, it does not have a tree.
 pub none_here : (m : serde.Num) → as_u64 m ≡ None → as_i64 m ≡ None → HasNoTree (serde.number m)
 none_here (serde.unsigned k) a b t h = absurd (cc)
 none_here (serde.negative z) a b t h = absurd (cc)

@@ -1,4 +1,4 @@
--- Values of `serde_json` and their trees, part by part.
+-- Lemmas about the JSON trees of `serde_json` values.
 use Rattle.std.proofs.Common.{◌≡◌, ℕ, List, map, [], ◌∷◌, ◌++◌, refl, ap, ap₂, sym, subst}
 use Rattle.std.proofs.Common.{◌∙◌}
 use Rattle.std.specs.Prelude.{string_bytes, string_cmp}
@@ -21,7 +21,7 @@ use Rattle.ijson_convert.specs.SerdeTree.{SerdeTree, SerdeItems, SerdeMembers, H
 use Rattle.ijson_convert.specs.TextsOf.{texts_of, items_texts, members_texts}
 use Rattle.ijson_convert.proofs.Interning.{Strings}
 
--- ---- a tree has the strings of the value whose tree it is
+-- The JSON tree of a `serde_json` value has the same strings, in the same order.
 mutual
   pub tree_texts : (d : Data) (t : Tree) → SerdeTree d t → texts_of t ≡ serde_texts d
   tree_texts serde.null null h = refl
@@ -32,14 +32,14 @@ mutual
   tree_texts (serde.object ms) (object ps) h = same_members_texts ms ps h
   tree_texts _ _ h = absurd h
 
-  -- the strings of elements
+  -- The trees of a list have the strings of the list, in the same order.
   same_items_texts : (ds : serde.Items) (ts : Items) → SerdeItems ds ts → items_texts ts ≡ serde_items_texts ds
   same_items_texts serde.no_items no_items h = refl
   same_items_texts (serde.item d ds) (item t ts) h =
       ap₂ (λ a b. a ++ b) (tree_texts d t h.0) (same_items_texts ds ts h.1)
   same_items_texts _ _ h = absurd h
 
-  -- the strings of members
+  -- The trees of a map's members have the strings of the map, in the same order.
   same_members_texts : (ms : serde.Members) (ps : Members) → SerdeMembers ms ps
       → members_texts ps ≡ serde_members_texts ms
   same_members_texts serde.no_members no_members h = refl
@@ -47,7 +47,7 @@ mutual
       ap₂ (λ a b. a ∷ b) (sym h.0) (ap₂ (λ a b. a ++ b) (tree_texts d t h.1) (same_members_texts ms ps h.2))
   same_members_texts _ _ h = absurd h
 
--- ---- the strings of elements and of entries
+-- The strings of one `serde_json` value (`each`), and of a list of values in order (`all`).
 abbrev pub value_strings : Strings Value
 value_strings = record {
   each = λ v. serde_texts (view v);
@@ -64,14 +64,14 @@ member_strings = record {
   first = λ _ _. refl;
 }
 
--- the key of an entry was interned, and then the strings of its value
+-- Interning the key of an entry and then the strings of its tree interns all strings of the entry.
 pub entry_interned : (e : Entry) (t : Tree) (k : List ℕ) (old middle new : Texts) → middle ≡ interned k old → k ≡ string_bytes e.0
     → new ≡ all_interned (texts_of t) middle → SerdeTree (view e.1) t → new ≡ all_interned (member_strings.each e) old
 entry_interned e t k old middle new keyed is read tree =
     read ∙ ap (λ l. all_interned l middle) (tree_texts (view e.1) t tree)
     ∙ ap (all_interned (serde_texts (view e.1))) (keyed ∙ ap (λ k. interned k old) is)
 
--- ---- the trees of one more part
+-- If lists have trees, the list with `v` appended has the trees with the tree of `v` appended.
 pub items_more : (vs : List Value) (us : List WellFormed) (v : Value) (u : WellFormed)
     → SerdeItems (items_view vs) (item_trees us) → SerdeTree (view v) u.tree
     → SerdeItems (items_view (vs ++ v ∷ [])) (item_trees (us ++ u ∷ []))
@@ -80,7 +80,8 @@ items_more [] (w ∷ us) v u h s = absurd h
 items_more (x ∷ vs) [] v u h s = absurd h
 items_more (x ∷ vs) (w ∷ us) v u h s = (h.0, items_more vs us v u h.1 s)
 
--- one more member
+-- If entries have trees, the entries with `e` appended have the trees with the member of `e`
+-- appended.
 pub members_more : (es : List Entry) (ps : List (List ℕ × WellFormed)) (e : Entry) (u : WellFormed)
     → SerdeMembers (members_view es) (pair_trees ps) → SerdeTree (view e.1) u.tree
     → SerdeMembers (members_view (es ++ e ∷ [])) (pair_trees (ps ++ (string_bytes e.0, u) ∷ []))
@@ -89,7 +90,7 @@ members_more [] (p ∷ ps) e u h s = absurd h
 members_more (f ∷ es) [] e u h s = absurd h
 members_more (f ∷ es) (p ∷ ps) e u h s = (h.0, h.1, members_more es ps e u h.2 s)
 
--- ---- a part with no tree
+-- If an element does not have a tree, a list that contains it does not have trees.
 items_none : (before : List Value) (v : Value) (left : List Value) → HasNoTree (view v) → (ts : Items)
     → SerdeItems (items_view (before ++ v ∷ left)) ts → ⊥
 items_none [] v left never no_items h = h
@@ -97,7 +98,7 @@ items_none [] v left never (item t ts) h = never t h.0
 items_none (x ∷ before) v left never no_items h = h
 items_none (x ∷ before) v left never (item t ts) h = items_none before v left never ts h.1
 
--- nor have the members
+-- If the value of an entry does not have a tree, entries that include it do not have members.
 members_none : (before : List Entry) (e : Entry) (left : List Entry) → HasNoTree (view e.1) → (ps : Members)
     → SerdeMembers (members_view (before ++ e ∷ left)) ps → ⊥
 members_none [] e left never no_members h = h
@@ -105,19 +106,19 @@ members_none [] e left never (member k t ps) h = never t h.1
 members_none (f ∷ before) e left never no_members h = h
 members_none (f ∷ before) e left never (member k t ps) h = members_none before e left never ps h.2
 
--- an array with an element that has no tree has none
+-- If an element does not have a tree, an array that contains it does not have a tree.
 pub array_none : (before : List Value) (v : Value) (left : List Value) → HasNoTree (view v)
     → HasNoTree (serde.array (items_view (before ++ v ∷ left)))
 array_none before v left never (array ts) h = items_none before v left never ts h
 array_none before v left never _ h = absurd h
 
--- an object with a member that has no tree has none
+-- If the value of an entry does not have a tree, an object with this entry does not have a tree.
 pub object_none : (before : List Entry) (e : Entry) (left : List Entry) → HasNoTree (view e.1)
     → HasNoTree (serde.object (members_view (before ++ e ∷ left)))
 object_none before e left never (object ps) h = members_none before e left never ps h
 object_none before e left never _ h = absurd h
 
--- ---- the keys of entries are those of their JSON entries
+-- The JSON entries of a map have the keys of the map, in the same order.
 keys_are : (es : List Entry) (ps : List (List ℕ × WellFormed)) → SerdeMembers (members_view es) (pair_trees ps)
     → store_keys ps ≡ map (λ e. string_bytes e.0) es
 keys_are [] [] h = refl
@@ -125,7 +126,7 @@ keys_are [] (p ∷ ps) h = absurd h
 keys_are (e ∷ es) [] h = absurd h
 keys_are (e ∷ es) (p ∷ ps) h = ap₂ (λ k l. k ∷ l) (sym h.0) (keys_are es ps h.2)
 
--- if the keys ascend, each entry is appended
+-- If the keys of a map ascend, inserting its JSON entries in order appends each of them.
 pub pairs_last : (es : List Entry) (ps : List (List ℕ × WellFormed)) → SerdeMembers (members_view es) (pair_trees ps)
     → IsStrictlySortedBy string_cmp (keys_of es) → put_each [] ps ≡ ps
 pairs_last es ps h sorted = put_each-new [] ps (subst IsDistinct (sym (keys_are es ps h)) (ordered_keys string_bytes es sorted))

@@ -1,4 +1,4 @@
--- A rejected tree is that of no value.
+-- A rejected tree does not mean the same as the tree of any value of the Rust type.
 use Rattle.std.specs.Prelude.{◌≡◌, ℕ, Bool, List, [], ◌∷◌, map, All, Option, None, Some, IfSome, ⊤, String}
 use Rattle.std.specs.Map.{values_of}
 use Rattle.std.proofs.Common.{inl, inr, subst}
@@ -59,7 +59,7 @@ module _ {X : Type 0} (tree : X → Tree) (Refused : Tree → ConvertError → T
   list_complete xs (array ts) e i w v s r = items_complete xs ts e i w v s r
   list_complete xs _ e i w v s r = absurd s
 
-  -- the entry of a map that has this key and this tree
+  -- If the tree of a map has a member, its tree `u` is the well-formed tree of a value in the map.
   pair_of : (es : List (String Global × X)) → All in_range (values_of es) → HaveWellFormed (members_of (map (pair_tree tree) es))
       → (k : List ℕ) (u : Tree) → Has k u (members_of (map (pair_tree tree) es))
       → (x : X) × (u ≡ tree x) × in_range x × IsWellFormed (tree x)

@@ -1,4 +1,4 @@
--- The number of an integer.
+-- The tree of a number that was created from an integer `z` is `integer_tree z`.
 use Rattle.std.proofs.Common.{◌≡◌, ℕ, ◌^◌, ◌<◌, Bool, true, false, refl, ap, sym, subst, ◌∙◌}
 use Rattle.std.specs.Prelude.{ℤ, pos, nat_abs, FitsSigned}
 use Rattle.std.specs.Cmp.{tied_back}
@@ -16,7 +16,7 @@ use Rattle.ijson_number.proofs.storing.IntegerWords.{word_num, word_integer, sig
 use Rattle.ijson_value.specs.Tree.{number}
 use Rattle.ijson_convert.specs.IntegerTree.{integer_number, integer_tree}
 
--- two numbers without a decimal point that have the same value
+-- Two numbers without a decimal point are equal decimals if they have the same integer value.
 same_integer : (a b : Num) (z : ℤ) → IsInteger a.decimal z → IsInteger b.decimal z → a.decimal ≡ b.decimal
 same_integer a b z h k =
     let p : number_cmp a.decimal (integer z) ≡ Equal = tests_equal _ h.value in
@@ -49,7 +49,7 @@ module _ (z : ℤ) (small : nat_abs z < 2 ^ 64) (fits : fits_i64 z ≡ false →
   integer_is n h =
       ap number (same_integer n (record { decimal = integer_number z; is_num = integer_num }) z h integer_has)
 
--- a number created from an integer of at most 64 bits
+-- If a number was created from a 64-bit signed integer `z`, its tree is `integer_tree z`.
 pub signed_is : (n : Num) (z : ℤ) → FitsSigned w64 z → IsInteger n.decimal z → number n.decimal ≡ integer_tree z
 signed_is n z h = integer_is z (signed_small z h) (λ e. let t = signed_fits z h in cc) n
 

@@ -1,4 +1,4 @@
--- Numbers and their integers.
+-- A number is not rejected if its value is an integer of the Rust type.
 use Rattle.std.proofs.Common.{◌≡◌, ◌<◌, ◌≤◌, ◌^◌, ℕ, ap, sym, ◌∙◌, arith}
 use mir.Val.{hbits}
 use Rattle.std.specs.Prelude.{ℤ, pos, FitsSigned}
@@ -17,11 +17,11 @@ use Rattle.ijson_convert.specs.Refused.{SignedRefused, UnsignedRefused}
 use Rattle.ijson_convert.specs.declared.convert_error.ConvertError.{ConvertError}
 use Rattle.ijson_number.specs.laws.IntegerValues.{integer_value}
 
--- a number that equals one of this value has it
+-- If `a` has the value `z` and equals `n`, then `n` has the value `z`.
 pub has_too : (a n : Decimal) (z : ℤ) → HasValue a z → number_cmp a n ≡ Equal → HasValue n z
 has_too a n z h s = ap is_eq (sym (number_cmp_total.congr a n (integer z) s) ∙ tests_equal _ h)
 
--- the integers of a narrower type are among those of a wider one
+-- An integer that fits a narrow type also fits a wider type.
 pub widened : (narrow wide : Width) → 2 ^ hbits narrow ≤ 2 ^ hbits wide → (z : ℤ) → FitsSigned narrow z → FitsSigned wide z
 widened narrow wide less z h = record { sfits = omega (arith, less, h.sfits) }
 

@@ -1,4 +1,4 @@
--- Why a value that is no integer of a type is rejected.
+-- Holds if `e` is the error for a value that is not an integer of the requested type.
 use Rattle.std.specs.Prelude.{◌≡◌}
 use Rattle.ijson_value.specs.Tree.{Tree, number}
 use Rattle.ijson_convert.specs.declared.convert_error.ConvertError.{ConvertError}

@@ -1,5 +1,6 @@
--- A call that lends a part of its first or second argument, and a call that maps the result of another. Assumes `Logic`.
--- the names that the callers cite
+-- Proof rules for a call that lends a part of an argument, and for a call that maps its argument to
+-- a result. Assumes `Logic`.
+-- Re-exports the names that the proofs of callers use.
 pub use denote.Ref.{NamedLft}
 pub use denote.Slice.{shr_slice_vals}
 pub use denote.Text.{Str, StrRefOf, str-field, str-laws, str-copy}
@@ -44,12 +45,12 @@ use types.Logic.{Logic}
 use types.Run.{Opds}
 use Rattle.ijson_value.proofs.value.Destructured.TheLaws.{the_row_laws as node_laws}
 
--- the laws of a reference to the content of a value
+-- The laws of a mutable reference to the content of a value.
 abbrev pub opened_laws : (κ : Lft) → Laws (MutRef (named 0) κ N)
 opened_laws κ = let a : NamedLft = record { mir = named 0; lft = κ } in
     of_field (mut_ref_field a N tt) (mut_ref_laws a N tt) refl (mut_ref_shared a N tt (row_shared N node_laws))
 
--- a Boolean, and its tests
+-- The laws of `bool`. `truth` and `falsehood` turn a test of a Boolean into an equation.
 abbrev pub bool_laws : Laws bool
 bool_laws = of_field bool-field bool-laws refl (copy_shared bool-field bool-copy)
 
@@ -61,14 +62,15 @@ pub falsehood : (t : Bool) → T (not t) → t ≡ false
 falsehood true k = absurd k
 falsehood false k = refl
 
--- for a call that requires nothing
+-- The precondition of a call that requires nothing holds.
 pub no_need : {M : Type 1} {𝓤 : Ura M} (𝓛 : Logic 𝓤) → ent 𝓤 (emp 𝓤) (mean 𝓛 (‵ ftrue))
 no_need 𝓛 = qed 𝓛 [] ∵ nothing ! $ done !
 
 module _ {M : Type 1} {𝓤 : Ura M} (𝓛 : Logic 𝓤) {K : Type 0} {Γ : List (Item 𝓤)} {E : Env 𝓤 𝓛.H} {C : Calls 𝓤 𝓛.H} {Λ : Loops 𝓤 𝓛.H}
     {f : Callee} {xs : List Operand} {d : Place} {rest : Body} {post : Post 𝓤 𝓛.H} (t : K) (κ : Lft) (q : Share)
     (frames : FmC 𝓤 𝓛.H 𝓛.laws C) (c : Contract 𝓤) (met : Triple 𝓤 (C f) c) (x : c.Ghost) (R : RattleType) (laws : Laws R) {W : Type 0} where
-  -- the part lent, the formula that the lender follows, the tokens, and what is known of the part
+  -- After a call that lends a part, the proof continues with the part, the formula that the lender
+  -- follows, the lifetime tokens, and the facts about the part.
   pub finds : (κ' : Lft) (q' : Share) (own own' : Fml) (i : Item 𝓤) → ent 𝓤 (emp 𝓤) (mean 𝓛 i)
       → ent 𝓤 (sep 𝓤 (mean 𝓛 ((‵ (flft κ q) ⊛ ‵ (flft κ' q') ⊛ ‵ ftrue) ⊛ ‵ own ⊛ ‵ own' ⊛ ‵ ftrue)) (mean 𝓛 i)) (c.pre x)
       → Opds K 𝓛 (raw (c.pre x) ∷ Γ) E xs (c.args x)
@@ -87,7 +89,8 @@ module _ {M : Type 1} {𝓤 : Ura M} (𝓛 : Logic 𝓤) {K : Type 0} {Γ : List
       peeks t R _ (shows 𝓛 R) y (w ∷ []) (λ seen. move t (3 ∷ []) $
       pick t (λ ws. split t $ drop t $ split t $ move t (1 ∷ 2 ∷ 0 ∷ []) $ go w y ((laws.lawful 𝓛).typed y (w ∷ []) seen)))))
 
-  -- the mapped result, the token and what is known of the result
+  -- After a call that maps its argument, the proof continues with the result, the lifetime token,
+  -- and the facts about the result.
   pub maps : (own : Fml) → ent 𝓤 (sep 𝓤 (mean 𝓛 ((‵ (flft κ q) ⊛ ‵ ftrue) ⊛ ‵ own ⊛ ‵ ftrue)) (mean 𝓛 (‵ ftrue))) (c.pre x)
       → Opds K 𝓛 (raw (c.pre x) ∷ Γ) E xs (c.args x)
       → (L : R.Denot → W → Fml) (J : R.Denot → Item 𝓤)

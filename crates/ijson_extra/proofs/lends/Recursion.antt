@@ -1,5 +1,5 @@
--- A recursive function satisfies its contract if a measure of its arguments decreases in each recursive call. What a lender
--- follows after a recursive call. Assumes `Logic`.
+-- A recursive function satisfies its contract if a measure of its arguments decreases in each
+-- recursive call. `step_on` composes what two nested lenders follow. Assumes `Logic`.
 use Rattle.ijson_value.proofs.lends.Steps.{[], ◌∷◌, ◌$◌, ◌∵◌, !, qed, done}
 use Prim.Native.Nat.{ℕ, ◌<◌}
 use mathlib.Core.Option.{Option, some}
@@ -45,7 +45,7 @@ module _ {M : Type 1} {𝓤 : Ura M} (𝓛 : Logic 𝓤) (T : Ended) (hs : Stays
     abbrev 𝓣 : MachineTables 𝓤 H 𝓜
     𝓣 = tables 𝓤 H 𝓜 𝓡 𝓡.env
 
-    -- the result of a recursive call
+    -- Holds if a recursive call with the ghost arguments `y` satisfies the contract.
     abbrev pub Called : Known.Ghost → Type 1
     Called y = ent 𝓤 (Known.pre y) (𝓣.C k (Known.args y) (Known.post y))
 
@@ -70,7 +70,8 @@ module _ {M : Type 1} {𝓤 : Ura M} (𝓛 : Logic 𝓤) (T : Ended) (hs : Stays
         (walk y (λ y' lt. below (μ y') (subst (λ (u : ℕ). μ y' < u) is lt) y' refl))))
         (closed (Known.args y) (Known.post y)))
 
--- A lender follows a part by a relation, and the part follows a part of its own: a relation to the inner part is one of the lender.
+-- If a lender follows a part, and the part follows an inner part, the lender follows the inner part
+-- by the composed relation.
 module _ {M : Type 1} {𝓤 : Ura M} (𝓛 : Logic 𝓤) (R S T U : RattleType) (O : S.Denot → R.Denot → Type 0) (O₀ : R.Denot → Type 0)
     (G : U.Denot → S.Denot) (Q : T.Denot → U.Denot → Type 0) (Q₀ : U.Denot → Type 0) (P : T.Denot → R.Denot → Type 0)
     (P₀ : R.Denot → Type 0)

@@ -1,4 +1,4 @@
--- The members that changes leave of a target, by the keys of the target and of a patch.
+-- The members of a merged object, made from the joined keys of the target and of the patch.
 use Rattle.std.proofs.Common.{◌≡◌, ℕ, suc, ◌≤◌, inl, inr, arith, List, [], ◌∷◌, ◌++◌, length, drop, get_or, Option, Some, None, true, false}
 use Rattle.std.proofs.Common.{refl, sym, ap, subst, ◌∙◌, cond, map, append_assoc, Bor}
 use Rattle.std.specs.Option.{unwrap_or}
@@ -22,17 +22,18 @@ Keys = List (List ℕ × Option Tree)
 abbrev Made : Type 0
 Made = List (List ℕ × Tree)
 
--- a member before others, if it is left
+-- The member of `key`, if it has a value, followed by `rest`.
 abbrev pub before : List ℕ → Option Tree → Made → Made
 before key None rest = rest
 before key (Some t) rest = (key, t) ∷ rest
 
--- the members left of keys with these old values; a missing one counts as null
+-- The members made from keys with changes and from the old values. A missing old value counts as
+-- null.
 abbrev pub made : Keys → List Tree → Made
 made [] olds = []
 made (k ∷ ks) olds = before k.0 (after (get_or olds 0 null) k.1) (made ks (drop 1 olds))
 
--- their keys are distinct if all are
+-- If the keys lack `key`, so do the members made from them.
 made-lacks : (ks : Keys) (olds : List Tree) (key : List ℕ) → Lacks key (keys_of ks) → Lacks key (keys_of (made ks olds))
 made-lacks [] olds key lacks = tt
 made-lacks (k ∷ ks) olds key lacks =
@@ -49,18 +50,18 @@ made-distinct (k ∷ ks) olds d =
       | Some t ↦ (made-lacks ks (drop 1 olds) k.0 d.0, made-distinct ks (drop 1 olds) d.1)
     ]
 
--- one member of a patch applied, as `merged_into` does
+-- The members after one member of a patch was applied, as in `merged_into`.
 abbrev applied : Made → List ℕ → Tree → Made
 applied ms key patch = changed ms key patch (merged (unwrap_or (lookup key ms) null) patch)
 
--- it passes a member with another key
+-- Applying a member of a patch to members does not change a first member with another key.
 passes : (k : List ℕ) (o : Option Tree) (rest : Made) (key : List ℕ) (patch : Tree) → bytes_eq k key ≡ false → bytes_eq key k ≡ false
     → applied (before k o rest) key patch ≡ before k o (applied rest key patch)
 passes k None rest key patch off away = refl
 passes k (Some t) rest key null off away = simp off
 passes k (Some t) rest key patch off away = simp (off, away)
 
--- a missing key is not removed
+-- Removing a missing key does not change the members.
 pub without-lacks : (ms : Made) (key : List ℕ) → Lacks key (keys_of ms) → without key ms ≡ ms
 without-lacks [] key lacks = refl
 without-lacks (m ∷ ms) key lacks = elim (same_key m.0 key) [
@@ -68,7 +69,7 @@ without-lacks (m ∷ ms) key lacks = elim (same_key m.0 key) [
   | inr d ↦ simp (d.0, without-lacks ms key lacks.1)
 ]
 
--- it changes the member with its key
+-- If the first member has the key of the patch's member, applying the change replaces its value.
 changed_here : (k key : List ℕ) (old : Tree) (rest : Made) (patch : Tree) → bytes_eq k key ≡ true → bytes_eq key k ≡ true
     → Lacks key (keys_of rest) → before k (after old (Some patch)) rest ≡ applied ((k, old) ∷ rest) key patch
 changed_here k key old rest null here found lacks = simp here (sym (without-lacks rest key lacks))
@@ -78,7 +79,8 @@ fewer : (olds : List Tree) (n : ℕ) → length olds ≤ suc n → length (drop 
 fewer [] n fits = omega arith
 fewer (old ∷ olds) n fits = omega arith
 
--- so a key with its change put among the keys does to those made what the patch does
+-- Adding a key with its change to the keys has the same effect as applying the change to the
+-- members made from them.
 made-put : (ks : Keys) (olds : List Tree) (key : List ℕ) (patch : Tree) → IsDistinct (keys_of ks)
     → unwrap_or (lookup key ks) None ≡ None → length olds ≤ length ks
     → made (put ks key (Some patch)) olds ≡ applied (made ks olds) key patch
@@ -101,7 +103,7 @@ made-put (k ∷ ks) olds key patch d free fits =
           ∙ sym (passes k.0 (after old k.1) rest key patch n.0 away))
     ]
 
--- none of these keys has a change
+-- Holds if the keys of the list do not have a change in `ks`.
 abbrev Free : Keys → List (List ℕ) → Type 0
 Free ks [] = Unit {0}
 Free ks (key ∷ keys) = (unwrap_or (lookup key ks) None ≡ None) × Free ks keys
@@ -129,7 +131,7 @@ all_free : (ks keys : List (List ℕ)) → Free (unchanged ks) keys
 all_free ks [] = tt
 all_free ks (key ∷ keys) = (has_none ks key, all_free ks keys)
 
--- a put removes no key
+-- Putting a key does not reduce the number of keys.
 no_fewer : (ks : Keys) (key : List ℕ) (change : Option Tree) → length ks ≤ length (put ks key change)
 no_fewer [] key change = omega arith
 no_fewer (k ∷ ks) key change = elim (same_key k.0 key) [
@@ -137,7 +139,8 @@ no_fewer (k ∷ ks) key change = elim (same_key k.0 key) [
   | inr n ↦ simp n.0 (omega (arith, no_fewer ks key change))
 ]
 
--- the same for all members of a patch
+-- Adding all changes of a patch to the keys has the same effect as merging the patch into the
+-- members.
 made-put_each : (ks : Keys) (olds : List Tree) (ps : List (List ℕ × WellFormed)) → IsDistinct (keys_of ks) → IsDistinct (keys_of ps)
     → Free ks (keys_of ps) → length olds ≤ length ks
     → made (put_each ks (all_changed ps)) olds ≡ merged_into (made ks olds) (pair_trees ps)
@@ -152,7 +155,7 @@ keys-unchanged : (ks : List (List ℕ)) → keys_of (unchanged ks) ≡ ks
 keys-unchanged [] = refl
 keys-unchanged (k ∷ ks) = ap (λ ls. k ∷ ls) (keys-unchanged ks)
 
--- without a change all members are left
+-- If no key has a change, all members are kept.
 made-unchanged : (ps : List (List ℕ × WellFormed)) → made (unchanged (keys_of ps)) (old_trees ps) ≡ members_list (pair_trees ps)
 made-unchanged [] = refl
 made-unchanged (p ∷ ps) = ap (λ ms. (p.0, p.1.tree) ∷ ms) (made-unchanged ps)
@@ -171,7 +174,7 @@ module _ (pairs changes : List (List ℕ × WellFormed)) (distinct : IsDistinct 
   pub joined-distinct : IsDistinct (keys_of (made (joined pairs changes) (old_trees pairs)))
   joined-distinct = made-distinct (joined pairs changes) (old_trees pairs) (put_each-distinct first (all_changed changes) first-distinct)
 
-  -- the members left of the joined keys are those of the changed target
+  -- The object made from the joined keys is the target merged with the patch.
   pub made-joined : IsDistinct (keys_of changes)
       → object (members_of (made (joined pairs changes) (old_trees pairs))) ≡ merged (object_tree pairs) (object_tree changes)
   made-joined distinct_changes = ap (λ ms. object (members_of ms))
@@ -179,7 +182,8 @@ module _ (pairs changes : List (List ℕ × WellFormed)) (distinct : IsDistinct 
       (omega (arith, as_many pairs))
       ∙ ap (λ ms. merged_into ms (pair_trees changes)) (made-unchanged pairs))
 
-  -- so an object of these entries is the changed target
+  -- If entries have the keys and trees made from the joined keys, their object is the target merged
+  -- with the patch.
   pub built : (items : List (List ℕ × WellFormed)) → IsDistinct (keys_of changes)
       → map pair_tree items ≡ made (joined pairs changes) (old_trees pairs)
       → object_tree (put_each [] items) ≡ merged (object_tree pairs) (object_tree changes)
@@ -187,7 +191,8 @@ module _ (pairs changes : List (List ℕ × WellFormed)) (distinct : IsDistinct 
       let apart = subst IsDistinct (ap keys_of (sym whole) ∙ keys_of-trees items) joined-distinct in
       ap object_tree (put_each-new [] items apart) ∙ ap (λ ms. object (members_of ms)) whole ∙ made-joined distinct_changes
 
--- changes are put by key, whether they are seen as trees or not
+-- Putting a change and then replacing each change by its tree has the same result as putting the
+-- tree of the change.
 put-shown : (ks : List (List ℕ × Option (Bor WellFormed))) (key : List ℕ) (change : Option (Bor WellFormed))
     → map shown (put ks key change) ≡ put (map shown ks) key (change_of change)
 put-shown [] key change = refl
@@ -201,7 +206,7 @@ put_each-shown : (ks more : List (List ℕ × Option (Bor WellFormed)))
 put_each-shown ks [] = refl
 put_each-shown ks (k ∷ more) = put_each-shown (put ks k.0 k.1) more ∙ ap (λ ls. put_each ls (map shown more)) (put-shown ks k.0 k.1)
 
--- the keys that a table of a target's and then a patch's has
+-- A table built from the keys of the target and then of the patch contains the joined keys.
 pub joined-shown : (table items : List (List ℕ × Option (Bor WellFormed))) (pairs changes : List (List ℕ × WellFormed))
     → IsDistinct (keys_of pairs) → table ≡ put_each [] items
     → map shown items ≡ unchanged (keys_of pairs) ++ all_changed changes → map shown table ≡ joined pairs changes
@@ -209,14 +214,15 @@ joined-shown table items pairs changes d is are =
     ap (map shown) is ∙ put_each-shown [] items ∙ ap (put_each []) are
     ∙ put_each-behind (unchanged (keys_of pairs)) (all_changed changes) (first-distinct pairs changes d)
 
--- a key moves from those left to those listed
+-- If the next key is appended, the keys listed so far, followed by the remaining keys, are all
+-- keys.
 pub one_listed : (items new : List (List ℕ × Option (Bor WellFormed))) (k : List ℕ × Option (Bor WellFormed)) (rest whole : Keys)
     → new ≡ items ++ k ∷ [] → map shown items ++ shown k ∷ rest ≡ whole → map shown new ++ rest ≡ whole
 one_listed items new k rest whole pushed was =
     ap (λ ks. map shown ks ++ rest) pushed ∙ ap (λ ks. ks ++ rest) (map-append shown items (k ∷ []))
     ∙ append_assoc (map shown items) (shown k ∷ []) rest ∙ was
 
--- the depth of the deepest change
+-- The depth of a change, or 0 for a key without a change.
 abbrev pub change_depth : Option Tree → ℕ
 change_depth None = 0
 change_depth (Some t) = depth t
@@ -243,7 +249,7 @@ changes_depth-unchanged : (ks : List (List ℕ)) → changes_depth (unchanged ks
 changes_depth-unchanged [] = refl
 changes_depth-unchanged (k ∷ ks) = omega (arith, changes_depth-unchanged ks)
 
--- is at most that of the patch's members
+-- The changes of the joined keys are at most as deep as the members of the patch.
 pub changes_depth-joined : (pairs changes : List (List ℕ × WellFormed))
     → changes_depth (joined pairs changes) ≤ members_depth (pair_trees changes)
 changes_depth-joined pairs changes = omega (arith, changes_depth-put_each (unchanged (keys_of pairs)) changes, changes_depth-unchanged (keys_of pairs))

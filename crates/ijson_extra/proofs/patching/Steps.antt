@@ -1,4 +1,4 @@
--- The steps of a merge patch on entries.
+-- Lemmas about applying one member of a merge patch to entries.
 use Rattle.std.proofs.Common.{◌≡◌, ◌≢◌, ℕ, inl, inr, List, [], ◌∷◌, Option, Some, None, refl, sym, ap, subst, ◌∙◌, ◌+◌}
 use Rattle.std.proofs.Common.{arith, suc}
 use Rattle.std.specs.Option.{unwrap_or}
@@ -16,7 +16,7 @@ use Rattle.ijson_value.specs.laws.Steps.{value_at}
 use Rattle.ijson_extra.specs.MergePatch.{members_in, merged, merged_into, changed, without}
 use Rattle.ijson_extra.proofs.patching.Joined.{without-lacks}
 
--- null removes a member, and any other value is put
+-- If the value in the patch is null, the member is removed.
 changed-null : (ms : List (List ℕ × Tree)) (key : List ℕ) (patch value : Tree) → kind_of patch ≡ Null → changed ms key patch value ≡ without key ms
 changed-null ms key null value h = refl
 changed-null ms key _ value h = cc
@@ -26,7 +26,7 @@ changed-put : (ms : List (List ℕ × Tree)) (key : List ℕ) (patch value : Tre
 changed-put ms key null value h = absurd (h refl)
 changed-put ms key _ value h = refl
 
--- the tree of the value of a key, null if it is missing
+-- The tree of a key's value is the tree of the value found, or null if the key is missing.
 tree-or_null : (found : Option WellFormed) → (unwrap_or found null_value).tree ≡ unwrap_or (option_map tree_of found) null
 tree-or_null None = refl
 tree-or_null (Some v) = refl
@@ -35,7 +35,7 @@ beside : (ps : List (List ℕ × WellFormed)) (key : List ℕ)
     → (unwrap_or (lookup key ps) null_value).tree ≡ unwrap_or (lookup key (members_in (object_tree ps))) null
 beside ps key = tree-or_null (lookup key ps) ∙ ap (λ o. unwrap_or o null) (value_at ps key)
 
--- if keys are distinct, shifting one out leaves the others
+-- Removing an entry at a later index keeps the first entry.
 out_behind : (m : List ℕ × Tree) (ms : List (List ℕ × Tree)) (found : Option ℕ)
     → out_at shift_out (option_map (λ i. i + 1) found) (m ∷ ms) ≡ m ∷ out_at shift_out found ms
 out_behind m ms None = refl
@@ -48,7 +48,8 @@ shifted-without (m ∷ ms) key d = elim (same_key m.0 key) [
   | inr n ↦ simp n.0 (out_behind m ms (at ms key) ∙ ap (λ rest. m ∷ rest) (shifted-without ms key d.1))
 ]
 
--- the effect of the rest of a patch, after its first member removed its key
+-- If the first member of a patch is null and its key was removed, merging the rest of the patch has
+-- the same result as merging the complete patch.
 pub one_removed : (ps new rest : List (List ℕ × WellFormed)) (key : List ℕ) (v : WellFormed) → kind_of v.tree ≡ Null
     → IsDistinct (keys_of ps) → new ≡ shift_out_key key ps
     → merged_into (members_in (object_tree new)) (pair_trees rest)
@@ -60,7 +61,8 @@ one_removed ps new rest key v is_null d left =
     (ap (λ qs. members_in (object_tree qs)) left ∙ shift_out-members ps key ∙ shifted-without ms key distinct
     ∙ sym (changed-null ms key v.tree (merged (unwrap_or (lookup key ms) null) v.tree) is_null))
 
--- and after its first member put one
+-- If the first member of a patch is not null and its result was put, merging the rest of the patch
+-- has the same result as merging the complete patch.
 pub one_put : (ps new rest : List (List ℕ × WellFormed)) (key : List ℕ) (v old w : WellFormed) → kind_of v.tree ≢ Null
     → old ≡ unwrap_or (lookup key ps) null_value → w.tree ≡ merged old.tree v.tree → new ≡ put ps key w
     → merged_into (members_in (object_tree new)) (pair_trees rest)

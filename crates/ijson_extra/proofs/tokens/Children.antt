@@ -1,4 +1,4 @@
--- The value that a token refers to in a value, from its list of elements or entries.
+-- The child that a token refers to is an element or the value of a key.
 use Rattle.std.proofs.Common.{◌≡◌, ◌⊎◌, inl, inr, ℕ, Bool, true, false, List, [], ◌∷◌, Option, Some, None, option_map}
 use Rattle.std.proofs.Common.{option_copied, eqb, refl, ap, ◌∙◌}
 use Rattle.std.specs.Prelude.{◌≢◌, IfSome, IfNone, MatchOption, option_and_then, slice_get}
@@ -18,7 +18,8 @@ item_named : (vs : List WellFormed) (o : Option ℕ)
 item_named vs None = refl
 item_named vs (Some i) = item_at vs i
 
--- the element at the index that a token denotes
+-- If `o` is the element at the index that the token denotes, `o` is the child that the token refers
+-- to.
 pub child_item : (v : WellFormed) (vs : List WellFormed) (o : Option (Bor WellFormed)) (token m : List ℕ) → array_value vs ≡ v
     → option_map (λ x. x.now.tree) o ≡ option_map tree_of (option_and_then (slice_get vs) (position_named token)) → meant token ≡ Some m
     → option_map (λ x. x.now.tree) o ≡ child_at v.tree m
@@ -27,13 +28,13 @@ child_item v vs o token m is e f =
     ∙ ap (λ p. option_and_then (tree_at (array_tree vs)) (option_map by_position p)) (same_position token m f)
     ∙ ap (λ w. child_at (tree_of w) m) is
 
--- the value of the key that a token means
+-- If `o` is the value of the key that the token means, `o` is the child that the token refers to.
 pub child_member : (v : WellFormed) (s : Store WellFormed) (o : Option (Bor WellFormed)) (m : List ℕ) → object_value s ≡ v
     → option_copied o ≡ lookup m s.pairs
     → option_map (λ x. x.now.tree) o ≡ child_at v.tree m
 child_member v s o m is e = found_tree o ∙ ap (option_map tree_of) e ∙ value_at s.pairs m ∙ ap (λ w. child_at (tree_of w) m) is
 
--- ---- a text that is not a pointer
+-- If a text is not empty and does not begin with `/`, it is not a pointer.
 begins_by : (b : ℕ) (text : List ℕ) (r : Bool) → eqb b 47 ≡ r → ((rest : List ℕ) → b ∷ text ≢ 47 ∷ rest) → tokens_of (b ∷ text) ≡ None
 begins_by b text true e h = absurd (h text (ap (λ c. c ∷ text) (eqb-true b 47 e)))
 begins_by b text false e h = ap (λ (r : Bool). elim r [ true ↦ all_meant (written_tokens text) | false ↦ None ]) e

@@ -1,4 +1,4 @@
--- The element or member that a token refers to, and the container with another one there.
+-- The child that a token refers to, and the array or object with this child replaced.
 use Rattle.std.proofs.Common.{◌≡◌, ℕ, ◌≤◌, Bool, true, false, List, Option, Some, None, refl, sym, ap, ◌∙◌, length, MutBor}
 use Rattle.std.specs.Prelude.{OnSome, option_map, option_and_then, slice_get, set, get_or}
 use Rattle.std.proofs.lemmas.Option.{slice_get_past, slice_get-get_or, option_and_then_some}
@@ -40,7 +40,7 @@ item_there : (vs : List WellFormed) (i : ℕ) (v : WellFormed) → slice_get vs 
     → tree_at (array_tree vs) (by_position i) ≡ Some v.tree
 item_there vs i v e = sym (item_at vs i) ∙ ap (option_map tree_of) e
 
--- the element at the index that a token denotes, and the array with another one there
+-- The element at the index that a token denotes is the child that the token refers to.
 module _ (a : Sequence) (token : List ℕ) (i : ℕ) (v : WellFormed) (named : position_named token ≡ Some i)
     (there : slice_get a.items i ≡ Some v) where
   pub item_found : Some v.tree ≡ written_at (array_tree a.items) token
@@ -62,12 +62,12 @@ none_meant : (vs : List WellFormed) (token : List ℕ) (m : Option (List ℕ)) �
 none_meant vs token None is h = refl
 none_meant vs token (Some m) is h = none_at vs (position_named m) (λ i e. h i (same_position token m is ∙ e))
 
--- there is no element at the index that a token denotes
+-- If the array lacks the index that a token denotes, the token does not refer to a value.
 pub item_missing : (vs : List WellFormed) (token : List ℕ) → ((i : ℕ) → position_named token ≡ Some i → length vs ≤ i)
     → None ≡ written_at (array_tree vs) token
 item_missing vs token h = none_meant vs token (meant token) refl h
 
--- the value of the key that a token means
+-- The value of the key that a token means is the child that the token refers to.
 member_meant : (ps : List (List ℕ × WellFormed)) (m : Option (List ℕ))
     → option_map tree_of (option_and_then (λ key. lookup key ps) m) ≡ option_and_then (child_at (object_tree ps)) m
 member_meant ps None = refl
@@ -82,7 +82,7 @@ pub member_missing : (ps : List (List ℕ × WellFormed)) (token : List ℕ) →
     → None ≡ written_at (object_tree ps) token
 member_missing ps token e = ap (option_map tree_of) e ∙ member_meant ps (meant token)
 
--- the object with another value there
+-- Replacing the value of the key that a token means replaces the child that the token refers to.
 pub member_put : (o : Store WellFormed) (token m : List ℕ) (r : Option (MutBor WellFormed)) (w : WellFormed) → meant token ≡ Some m
     → option_map (λ v. v.now.tree) r ≡ written_at (object_tree o.pairs) token
     → OnSome r (object_tree (with_key o m w).pairs ≡ written_with (object_tree o.pairs) token w.tree)
@@ -91,7 +91,7 @@ member_put o token m r w is found = on_some r (λ some.
     some in
     tree_with_step (Object o) (by_key m) w there ∙ sym (ap (λ x. meant_with (object_tree o.pairs) x w.tree) is))
 
--- and by the index of the key
+-- The entry at index `i` has the key that the token means, and its value is lent.
 module _ (o : Store WellFormed) (token : List ℕ) (i : ℕ) (r : Option (MutBor WellFormed))
     (named : Some i ≡ option_and_then (at o.pairs) (meant token))
     (lent : option_map (λ v. v.now) r ≡ option_map (λ pair. pair.1) (slice_get o.pairs i)) where

@@ -1,4 +1,4 @@
--- Results that are optional values.
+-- Lemmas about optional results.
 use Rattle.std.proofs.Common.{◌≡◌, Option, Some, None, refl, sym, MutBor}
 use Rattle.std.specs.Prelude.{OnSome, IsSome, option_map}
 use Rattle.ijson_value.specs.Tree.{Tree}

@@ -1,4 +1,4 @@
--- The indices that tokens denote.
+-- Lemmas about the array indices that tokens denote.
 use Rattle.std.proofs.Common.{◌≡◌, inl, inr, ℕ, ◌<◌, ◌≤◌, ◌^◌, Result, Ok, Err, not, Bool, true, false, List, [], ◌∷◌, eqb, length, refl}
 use Rattle.std.proofs.Common.{sym, ap, ◌∙◌, arith, Option, Some, None, option_map}
 use mathlib.Core.Bool.{true≢false}
@@ -28,7 +28,8 @@ position_digits (b ∷ c ∷ token) e = (and_parts (not (b == 48)) (all_ascii_di
 pub digits_meant : (token : List ℕ) → all_ascii_digits token ≡ true → meant token ≡ Some token
 digits_meant token e = meant_itself token (not_in_digits own token 126 e not_digit)
 
--- if `b` before the list in `o` gives the digits `m`, then `b` is a digit and the list in `o` is all digits
+-- If prepending `b` to the list in `o` results in the digits `m`, then `b` is a digit and the list
+-- in `o` consists of digits.
 with_first : (b : ℕ) (o : Option (List ℕ)) (m : List ℕ) → option_map (λ token. b ∷ token) o ≡ Some m → all_ascii_digits m ≡ true
     → (n : List ℕ) × (o ≡ Some n) × (b ∷ n ≡ m) × (is_ascii_digit b ≡ true) × (all_ascii_digits n ≡ true)
 with_first b None m e h = absurd (cc)
@@ -36,14 +37,14 @@ with_first b (Some n) m e h =
     let is = same_Some (b ∷ n) m e in let both = and_parts (is_ascii_digit b) (all_ascii_digits n) (ap all_ascii_digits is ∙ h) in
     (n, refl, is, both.0, both.1)
 
--- digits cannot be the meaning of a text that begins with an escape
+-- A text that begins with an escape does not mean a list of digits.
 no_escapes : (text m : List ℕ) → escape_meant text ≡ Some m → all_ascii_digits m ≡ true → ⊥
 no_escapes [] m e h = absurd (cc)
 no_escapes (b ∷ text) m e h =
     by_tests (λ o. o ≡ Some m → ⊥) (eqb b 48) _ _ (λ f. true≢false (sym (with_first 126 (meant text) m f h).3))
     (by_tests (λ o. o ≡ Some m → ⊥) (eqb b 49) _ _ (λ f. true≢false (sym (with_first 47 (meant text) m f h).3)) (λ f. absurd (cc))) e
 
--- a token that means digits consists of them
+-- A token that means digits consists of these digits.
 digits_back : (token m : List ℕ) → meant token ≡ Some m → all_ascii_digits m ≡ true → token ≡ m
 digits_back [] m e h = same_Some [] m e
 digits_back (b ∷ text) m e h =
@@ -62,7 +63,7 @@ by_position token m p true f g e = ap position_named (digits_back token m e (pos
 by_position token m true false f g e = ap position_named (same_Some token m (sym (digits_meant token (position_digits token f)) ∙ e))
 by_position token m false false f g e = not_named token f ∙ sym (not_named m g)
 
--- a token denotes the same index as its meaning
+-- A token denotes the same index as its meaning.
 pub same_position : (token m : List ℕ) → meant token ≡ Some m → position_named token ≡ position_named m
 same_position token m e = by_position token m (names_position token) (names_position m) refl refl e
 
@@ -83,7 +84,8 @@ read_by token count (Err x) h p s l = λ i e.
     let past = at_least (digits_value 10 token) count l (λ m. h (s, m)) in
     omega (arith, is, past)
 
--- a parsed index; if it is too large, it is not below any count
+-- If the token is parsed to `n`, it denotes the index `n`. If parsing fails, the index is at least
+-- `count`.
 pub position_read : {E : Type 0} (token : List ℕ) (count : ℕ) (r : Result ℕ E) → ParsesUnsigned 64 10 token r → names_position token ≡ true
     → count < 2 ^ 64
     → MatchResult r (λ n. position_named token ≡ Some n) (λ e. (i : ℕ) → position_named token ≡ Some i → count ≤ i)

@@ -1,4 +1,4 @@
--- Replacing a part by itself changes nothing.
+-- Replacing a part of a tree by itself does not change the tree.
 use Rattle.std.proofs.Common.{◌≡◌, inl, inr, ℕ, zero, suc, List, Option, Some, None, refl, sym, ap, ◌∙◌}
 use Rattle.std.specs.Prelude.{option_and_then, slice_get, set}
 use Rattle.std.specs.Cmp.Lexicographic.{bytes_decides}

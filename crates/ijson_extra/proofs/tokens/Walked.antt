@@ -1,4 +1,4 @@
--- The value that a pointer refers to, and the tree with that value replaced, by the first token and the other tokens.
+-- Following a pointer means following its first token, and then the other tokens.
 use Rattle.std.proofs.Common.{◌≡◌, ℕ, true, false, List, ◌∷◌, Option, Some, None, refl, sym, ap, ◌∙◌, is_some}
 use Rattle.std.specs.Prelude.{option_map, option_and_then}
 use Rattle.ijson_value.specs.Tree.{Tree}
@@ -9,7 +9,7 @@ use Rattle.ijson_extra.proofs.Pointers.{first_is}
 use Rattle.ijson_extra.proofs.tokens.Options.{not_both}
 use Rattle.ijson_extra.proofs.tokens.PutBack.{meant_same}
 
--- the first token and the other tokens, if all have a meaning
+-- The meanings of the first token and of the other tokens as one list, if all have a meaning.
 abbrev joined : Option (List ℕ) → Option (List (List ℕ)) → Option (List (List ℕ))
 joined m rest = option_and_then (λ token. option_map (λ more. token ∷ more) rest) m
 
@@ -19,7 +19,7 @@ none_on t None rest e = refl
 none_on t (Some m) None e = refl
 none_on t (Some m) (Some more) e = ap (option_and_then (λ u. followed u more)) e
 
--- if the first token leads to no value, the pointer leads to no value
+-- If the first token does not refer to a value, the pointer does not refer to a value.
 pub none_first : (t : Tree) (left : List ℕ) → None ≡ written_at t (first_of left) → None ≡ found_at t (47 ∷ left)
 none_first t left e =
     let is = first_is left in
@@ -38,7 +38,7 @@ put_on t v u None rest e = refl
 put_on t v u (Some m) None e = meant_same t (Some m) v (sym e)
 put_on t v u (Some m) (Some more) e = ap (λ o. child_with t m (followed_with o more u)) e
 
--- if the first token leads to the value `v`, the other tokens are followed from `v`
+-- If the first token refers to the value `v`, the other tokens are followed from `v`.
 module _ (t : Tree) (left : List ℕ) (more : List (List ℕ)) (is : written_tokens left ≡ first_of left ∷ more) (v : Tree)
     (found : Some v ≡ written_at t (first_of left)) where
   pub next_found : (seen : Option Tree) → seen ≡ option_and_then (λ o. o) (option_map (followed v) (all_meant more))
@@ -54,7 +54,7 @@ module _ (t : Tree) (left : List ℕ) (more : List (List ℕ)) (is : written_tok
   pub next_left : (m n : Tree) → n ≡ written_with t (first_of left) m → m ≡ v → n ≡ t
   next_left m n f g = f ∙ ap (written_with t (first_of left)) g ∙ meant_same t (meant (first_of left)) v (sym found)
 
--- an option that flattens to `Some t` is `Some (Some t)`
+-- If an option flattens to `Some t`, it is `Some (Some t)`.
 pub found_once : (o : Option (Option Tree)) (t : Tree) → Some t ≡ option_and_then (λ found. found) o → o ≡ Some (Some t)
 found_once None t e = not_both t (sym e)
 found_once (Some found) t e = ap (λ x. Some x) (sym e)

@@ -1,4 +1,5 @@
--- The value that written tokens lead to: a token that means nothing leads to nothing.
+-- Following the tokens of a pointer as written, before their escapes are decoded. A token with an
+-- invalid escape leads to nothing.
 use Rattle.std.specs.Prelude.{◌≡◌, ℕ, List, [], Option, Some, None, OnSome, option_map, option_and_then, get_or}
 use Rattle.std.specs.Borrow.{LendsSo, MutBor, Fml}
 use Rattle.ijson_table.specs.Store.{Store}
@@ -14,7 +15,8 @@ use Rattle.ijson_value.specs.contracts.value.IValue as value
 use Rattle.ijson_value.specs.declared.value.Destructured.{Destructured}
 use Rattle.ijson_extra.specs.Pointer.{meant, written_tokens, child_at, child_with, resolved, resolved_with}
 
--- the value that a token leads to, and the tree with another one there
+-- `written_at t token` is the child of `t` that a token refers to, and `written_with t token u` is
+-- `t` with `u` in its place.
 abbrev pub written_at : Tree → List ℕ → Option Tree
 written_at t token = option_and_then (child_at t) (meant token)
 
@@ -25,11 +27,11 @@ meant_with t (Some token) u = child_with t token u
 abbrev pub written_with : Tree → List ℕ → Tree → Tree
 written_with t token u = meant_with t (meant token) u
 
--- the first token
+-- The first token, as written.
 abbrev pub first_of : List ℕ → List ℕ
 first_of left = get_or (written_tokens left) 0 []
 
--- the value at a pointer; there is none if the text is not a pointer
+-- The value at a pointer, or `None` if it does not exist or the text is not a pointer.
 abbrev pub found_at : Tree → List ℕ → Option Tree
 found_at t pointer = option_and_then (λ found. found) (resolved t pointer)
 
@@ -39,7 +41,7 @@ node_tree n = (node_value n).tree
 abbrev pub tree_lent : Option (MutBor WellFormed) → Option Tree
 tree_lent r = option_map (λ v. v.now.tree) r
 
--- lends the value that a token refers to; if there is none, the lender is unchanged
+-- Lends the child that a token refers to. If it does not exist, the lender is unchanged.
 abbrev pub LendsNamedItem : MutBor Sequence → List ℕ → Option (MutBor WellFormed) → Fml
 LendsNamedItem s token r =
     LendsSo arrays.the_row value.the_row s r (λ n w. OnSome r (array_tree n.items ≡ written_with (array_tree s.now.items) token w.tree))
@@ -55,7 +57,7 @@ LendsNamed s token r =
     LendsSo node.the_row value.the_row s r (λ n w. OnSome r (node_tree n ≡ written_with (node_tree s.now) token w.tree))
     (λ n. node_tree n ≡ node_tree s.now)
 
--- lends the value that all tokens of a pointer lead to
+-- Lends the value that a pointer refers to. If it does not exist, the lender is unchanged.
 abbrev pub LendsNamedInside : MutBor Destructured → List ℕ → Option (MutBor WellFormed) → Fml
 LendsNamedInside s pointer r =
     LendsSo node.the_row value.the_row s r (λ n w. OnSome r (node_tree n ≡ resolved_with (node_tree s.now) pointer w.tree))

@@ -1,4 +1,4 @@
-//! Mutable access to the value that a pointer refers to.
+//! Mutable access to the value that a JSON Pointer refers to.
 ghost use Rattle.std.specs.Prelude.{◌≡◌, ◌<◌, ◌↔◌, [], ◌∷◌, length, Some, None, IsTrue, IfOk, IfErr, IfSome, IfNone, is_some, option_map};
 ghost use Rattle.std.specs.Borrow.{sem};
 ghost use Rattle.ijson_value.specs.LendsPart.{LendsOpened};
@@ -19,10 +19,10 @@ use ijson_value::object::IObject;
 use ijson_value::value::{Destructured, IValue};
 use thiserror::Error;
 
-/// Why `resolve_opened_mut` returns no value.
+/// The reason why `resolve_opened_mut` failed.
 #[derive(Clone, Copy, PartialEq, Eq, Debug, Drop, Error)]
 pub enum Unresolved {
-    /// The pointer refers to nothing in the value.
+    /// The pointer does not refer to a value.
     #[error("the JSON Pointer refers to no value")]
     Nothing,
     /// The text is not a JSON Pointer.
@@ -30,10 +30,13 @@ pub enum Unresolved {
     NoPointer(PointerError),
 }
 
-/// Returns a mutable reference to the value at `pointer` inside `value`, or `None` if there is none.
+/// Returns a mutable reference to the value that `pointer` refers to, or `None` if it does not
+/// exist.
 ///
-/// It resolves like `resolve` (RFC 6901). Writing changes that one value. A contract that states the whole value after the write needs a
-/// proof by hand; with `resolve_opened_mut` it needs none.
+/// Resolves `pointer` like `resolve` (RFC 6901). Writing changes only this value.
+///
+/// If your contract describes the outer value after the write, call `resolve_opened_mut`: with
+/// `resolve_mut`, such a contract has to be proved by hand.
 ///
 /// ```
 /// if let Some(port) = resolve_mut(&mut value, "/servers/0/port")? {
@@ -47,8 +50,8 @@ pub enum Unresolved {
 ///
 /// # Cost
 ///
-/// That of `resolve`, plus up to two more passes over the pointer. Does not allocate. The stack grows with each token that leads to a
-/// value.
+/// Like `resolve`, plus up to two more passes over the pointer. Does not allocate. Recurses once
+/// per token that refers to a value.
 pub fn resolve_mut<'a>(
     value: &'a mut IValue,
     pointer: &str,
@@ -64,9 +67,9 @@ pub fn resolve_mut<'a>(
     Err(PointerError::Syntax)
 }
 
-/// Like `resolve_mut`, but returns the content of the value, and an error if there is none.
+/// Like `resolve_mut`, but returns the content of the value, and an error if it does not exist.
 ///
-/// Use it if your contract states the whole value after the write; it then needs no proof by hand.
+/// Call it if your contract describes the outer value after the write: the proof is automatic.
 ///
 /// ```
 /// *resolve_opened_mut(&mut value, "/servers/0/port")? = IValue::from(8080u64).destructure();
@@ -74,7 +77,8 @@ pub fn resolve_mut<'a>(
 ///
 /// # Errors
 ///
-/// Fails with `Nothing` if the pointer refers to nothing, and with `NoPointer` if it is not a JSON Pointer.
+/// Returns `Nothing` if the pointer does not refer to a value, and `NoPointer` if it is not a JSON
+/// Pointer.
 pub fn resolve_opened_mut<'a>(
     value: &'a mut IValue,
     pointer: &str,
@@ -94,7 +98,7 @@ pub fn resolve_opened_mut<'a>(
     }
 }
 
-/// Returns `true` if a pointer refers to the value itself.
+/// Returns `true` if `pointer` is empty, so that it refers to the value itself.
 pub(super) fn names_itself(pointer: &str) -> bool
     ensures { IsTrue result ↔ (pointer.now ≡ []) }
 {
@@ -109,7 +113,7 @@ pub(super) fn opened(value: &mut IValue) -> &mut Destructured
     &mut **value
 }
 
-/// Returns a mutable reference to the value at a pointer that is not empty.
+/// Returns a mutable reference to the value that `pointer` refers to. `pointer` is not empty.
 pub(super) fn inside<'a>(opened: &'a mut Destructured, pointer: &str) -> Option<&'a mut IValue>
     requires { (pointer.now ≡ []) → ⊥ }
     ensures* writes_back { sem 𝓛 (LendsNamedInside opened.entry pointer.now result) }
@@ -121,7 +125,7 @@ pub(super) fn inside<'a>(opened: &'a mut Destructured, pointer: &str) -> Option<
     }
 }
 
-/// Returns `true` if the text is a pointer.
+/// Returns `true` if `pointer` is a JSON Pointer.
 fn is_pointer(pointer: &str) -> bool
     ensures { result ≡ is_some (tokens_of pointer.now) }
 {
@@ -131,7 +135,7 @@ fn is_pointer(pointer: &str) -> bool
     }
 }
 
-/// Returns `true` if no token has an invalid escape.
+/// Returns `true` if each `~` in `tokens` begins an escape.
 fn are_tokens(tokens: &str) -> bool
     ensures { result ≡ is_some (all_meant (written_tokens tokens.now)) }
 {
@@ -148,9 +152,9 @@ fn are_tokens(tokens: &str) -> bool
     }
 }
 
-/// Follows the tokens of `left` to a value.
+/// Returns a mutable reference to the value that the tokens of `left` lead to.
 ///
-/// It recurses once for each token that leads to a value, so at most as deep as values nest.
+/// Recurses once per token that refers to a value, so at most as often as the value's depth.
 fn walk<'a>(from: &'a mut Destructured, left: &str) -> Option<&'a mut IValue>
     ensures* writes_back { sem 𝓛 (LendsNamedInside from.entry (47 ∷ left.now) result) }
     ensures value { tree_lent result ≡ found_at (node_tree from.old) (47 ∷ left.now) }
@@ -164,7 +168,7 @@ fn walk<'a>(from: &'a mut Destructured, left: &str) -> Option<&'a mut IValue>
     walk(opened(found), behind)
 }
 
-/// Follows the first token to a value.
+/// Returns a mutable reference to the child that the first token of `left` refers to.
 fn first_mut<'a>(opened: &'a mut Destructured, left: &str) -> Option<&'a mut IValue>
     ensures* writes_back { sem 𝓛 (LendsNamed opened.entry (first_of left.now) result) }
     ensures value { tree_lent result ≡ written_at (node_tree opened.old) (first_of left.now) }
@@ -172,7 +176,7 @@ fn first_mut<'a>(opened: &'a mut Destructured, left: &str) -> Option<&'a mut IVa
     child_mut(opened, split_token(left).0)
 }
 
-/// Returns the text after the first token, or `None` if there is no other token.
+/// Returns the text after the first token, or `None` if `left` consists of one token.
 fn behind_first(left: &str) -> Option<&str>
     ensures some { IfSome result (λ behind. (length behind.now < length left.now)
         × (written_tokens left.now ≡ first_of left.now ∷ written_tokens behind.now)) }
@@ -181,7 +185,7 @@ fn behind_first(left: &str) -> Option<&str>
     split_token(left).1
 }
 
-/// Returns a mutable reference to the value that a token refers to.
+/// Returns a mutable reference to the child that `token` refers to.
 fn child_mut<'a>(opened: &'a mut Destructured, token: &str) -> Option<&'a mut IValue>
     ensures* writes_back { sem 𝓛 (LendsNamed opened.entry token.now result) }
     ensures value { tree_lent result ≡ written_at (node_tree opened.old) token.now }
@@ -193,7 +197,7 @@ fn child_mut<'a>(opened: &'a mut Destructured, token: &str) -> Option<&'a mut IV
     }
 }
 
-/// Returns a mutable reference to the element at the index that a token denotes.
+/// Returns a mutable reference to the element at the index that `token` denotes.
 fn item_mut<'a>(array: &'a mut IArray, token: &str) -> Option<&'a mut IValue>
     ensures* writes_back { sem 𝓛 (LendsNamedItem array.entry token.now result) }
     ensures value { tree_lent result ≡ written_at (array_tree array.old.items) token.now }
@@ -204,7 +208,7 @@ fn item_mut<'a>(array: &'a mut IArray, token: &str) -> Option<&'a mut IValue>
     }
 }
 
-/// Returns a mutable reference to the value of the key that a token means.
+/// Returns a mutable reference to the value of the key that `token` means.
 fn member_mut<'a>(object: &'a mut IObject, token: &str) -> Option<&'a mut IValue>
     ensures* writes_back { sem 𝓛 (LendsNamedMember object.entry token.now result) }
     ensures value { tree_lent result ≡ written_at (object_tree object.old.pairs) token.now }

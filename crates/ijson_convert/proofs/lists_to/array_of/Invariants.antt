@@ -5,7 +5,7 @@ use Rattle.ijson_convert.specs.ListTree.{list_tree}
 use Rattle.ijson_convert.specs.TextsOf.{texts_of}
 use Rattle.ijson_convert.proofs.lists_to.array_of.Given as goal
 
--- the elements so far are converted, and their strings interned
+-- The elements so far are converted and their strings are interned.
 abbrev pub invariant-loop-x : goal.invariant-loop-x
 invariant-loop-x g l =
     (map tree_of l.array.items ≡ map g.T.ToIValue.tree (take l.x-index l.items))

@@ -15,7 +15,7 @@ use Rattle.ijson_convert.proofs.pairs.Shown.{shown_next, shown_all}
 use Rattle.ijson_convert.proofs.maps_to.object_of.Goals.{In-Some, In-None}
 use Rattle.ijson_convert.proofs.maps_to.object_of.Goals as goal
 
--- the entry yielded is the next of all
+-- The entry that the iterator yields is the next of all entries.
 next : (g : _) (c : In-Some g) (all : List (String Global × g.row.T.Denot))
     → AlwaysYields g.I.Iterator.next_gives deref_pair c.args.entries all
     → (rest : List (String Global × g.row.T.Denot))
@@ -24,14 +24,14 @@ next g c all a =
     shown_next g.I.Iterator.next_gives deref_pair c.into_iter-key-iterator.ensures.into_iter_gives c.loop-key.yielded all
     c.loop-key.key-iterator c.next.new.self a c.loop-key.yielded_by (c.in-Some.key, c.in-Some.x) c.in-Some.ensures.steps
 
--- when none is yielded, all have been
+-- If the iterator yields `None`, all entries have been yielded.
 all_came : (g : _) (c : In-None g) (all : List (String Global × g.row.T.Denot))
     → AlwaysYields g.I.Iterator.next_gives deref_pair c.args.entries all → all ≡ map deref_pair c.loop-key.yielded
 all_came g c all a =
     shown_all g.I.Iterator.next_gives deref_pair c.into_iter-key-iterator.ensures.into_iter_gives c.loop-key.yielded all
     c.loop-key.key-iterator c.next.new.self a c.loop-key.yielded_by c.in-None.ensures.steps
 
--- when none is yielded, the entries are those of all
+-- If the iterator yields `None`, `SoFar` holds for all entries.
 whole : (g : _) (c : In-None g) (all : List (String Global × g.row.T.Denot))
     → AlwaysYields g.I.Iterator.next_gives deref_pair c.args.entries all
     → SoFar (pair_tree g.T.ToIValue.tree) c.args.cache.now c.loop-key.pairs.items all c.loop-key.cache

@@ -4,7 +4,7 @@ use Rattle.ijson_convert.specs.MapTree.{pair_tree}
 use Rattle.ijson_convert.proofs.pairs.PairsPut.{SoFar}
 use Rattle.ijson_convert.proofs.maps_to.object_of.Given as goal
 
--- the entries so far are in a list with capacity for all of them
+-- The entries so far are converted, in a list with capacity for all entries.
 abbrev pub invariant-loop-key : goal.invariant-loop-key
 invariant-loop-key g l = record {
   ready : (goal.iterator-loop-key g).can_next l.key-iterator;

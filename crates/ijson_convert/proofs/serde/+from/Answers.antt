@@ -22,15 +22,16 @@ use Rattle.ijson_convert.proofs.serde.+from.Goals as goal
 use Rattle.ijson_convert.proofs.serde.+from.Goals.{from_items-After-from_serde, from_serde_map-After-intern}
 use Rattle.ijson_convert.proofs.serde.+from.Goals.{from_serde_map-After-from_pairs}
 
--- ---- an element
--- the elements so far, this one and those after it
+-- ---- Answers about `from_items`
+-- The list consists of the elements so far, the current element and the elements after it.
 item_parts : (g : Over) (t : ℕ) (c : from_items-After-from_serde g t) →
     let xs = c.deref-item-items.result.now in let i = c.loop-item.item-index in
     take i xs ++ c.item-item.result ∷ drop (suc i) xs ≡ c.args.items.now.items
 item_parts g t c = split_at c.deref-item-items.result.now c.loop-item.item-index c.item-item.result (omega (arith, c.loop-item-test.true))
     c.item-item.is ∙ c.deref-item-items.ensures.value
 
--- a beginning of this element's strings is one of all strings
+-- If some leading strings of the current element were interned, so were some leading strings of the
+-- list.
 item_begun : (g : Over) (t : ℕ) (c : from_items-After-from_serde g t)
     → SomeInterned (serde_texts (view c.item-item.result)) c.loop-item.cache c.from_serde.new.cache
     → SomeInterned (serde_items_texts (items_view c.args.items.now.items)) c.args.cache.now c.from_serde.new.cache
@@ -78,7 +79,7 @@ from_items-returns-clause-cache g t c =
     c.loop-item.invariant.1 ∙ ap (λ vs. all_interned (serde_items_texts (items_view vs)) c.args.cache.now)
     (take_all c.loop-item.item-index c.deref-item-items.result.now (omega (arith, c.loop-item-test.false)) ∙ c.deref-item-items.ensures.value)
 
--- ---- a value
+-- ---- Answers about `from_serde`
 pub from_serde-returns-in_err-from_items-in-Array-clause-refused : goal.from_serde-returns-in_err-from_items-in-Array-clause-refused
 from_serde-returns-in_err-from_items-in-Array-clause-refused g t c =
     let seen = sym (ap view c.in-Array.is ∙ view-Array c.in-Array.items) in
@@ -98,7 +99,7 @@ from_serde-returns-in_ok-from_items-in-Array-clause-cache g t c =
     c.in_ok-from_items-in-Array.ensures.cache ∙ ap (λ l. all_interned l c.args.cache.now) (sym texts)
     ∙ ap (λ v. all_interned (texts_of v.tree) c.args.cache.now) (sym c.from-in-Array.ensures)
 
--- ---- a member
+-- ---- Answers about `from_serde_map`
 pub from_serde_map-loop-key-init : goal.from_serde_map-loop-key-init
 from_serde_map-loop-key-init g t c = record {
   done = [];
@@ -108,18 +109,19 @@ from_serde_map-loop-key-init g t c = record {
   room = search rules;
 }
 
--- the members so far, this one and those that are left
+-- The map consists of the entries so far, the current entry and the remaining entries.
 member_parts : (g : Over) (t : ℕ) (c : from_serde_map-After-intern g t)
     → c.loop-key.invariant.done ++ (c.in-Some.key.now, c.in-Some.member.now) ∷ c.next.new.self ≡ c.args.map.now.entries
 member_parts g t c = sym (c.loop-key.invariant.parts ∙ ap (λ es. c.loop-key.invariant.done ++ es) c.in-Some.ensures.steps)
 
--- if none is left, those so far are all
+-- If the iterator has ended, the entries so far are all entries of the map.
 all_done : (g : Over) (t : ℕ) (c : from_serde_map-After-from_pairs g t) → c.args.map.now.entries ≡ c.loop-key.invariant.done
 all_done g t c =
     let done = c.loop-key.invariant.done in
     c.loop-key.invariant.parts ∙ ap (λ es. done ++ es) c.in-None.ensures.steps.0 ∙ append-nil done
 
--- a beginning of this member's strings is one of all strings
+-- If some leading strings of the current entry were interned, so were some leading strings of the
+-- map.
 member_begun : (g : Over) (t : ℕ) (c : from_serde_map-After-intern g t) (new : Texts)
     → SomeInterned (string_bytes c.in-Some.key.now ∷ serde_texts (view c.in-Some.member.now)) c.loop-key.cache new
     → SomeInterned (serde_members_texts (members_view c.args.map.now.entries)) c.args.cache.now new

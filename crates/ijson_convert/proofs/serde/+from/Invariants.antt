@@ -7,13 +7,14 @@ use Rattle.ijson_convert.specs.SerdeTree.{SerdeItems, SerdeMembers}
 use Rattle.ijson_convert.specs.SerdeTexts.{serde_items_texts, serde_members_texts}
 use Rattle.ijson_convert.proofs.serde.+from.Given as goal
 
--- the array has the trees of the elements so far, and their strings are interned
+-- The array has the trees of the elements so far, and their strings are interned.
 abbrev pub invariant-from_items-loop-item : goal.invariant-from_items-loop-item
 invariant-from_items-loop-item g l =
     SerdeItems (items_view (take l.item-index l.item-items)) (item_trees l.array.items)
     × (l.cache ≡ all_interned (serde_items_texts (items_view (take l.item-index l.item-items))) l.fn.cache)
 
--- the members so far have their trees, their strings are interned, and the list has capacity for those left
+-- The entries so far are converted, their strings are interned, and the list has capacity for the
+-- remaining entries.
 abbrev pub invariant-from_serde_map-loop-key : goal.invariant-from_serde_map-loop-key
 invariant-from_serde_map-loop-key g l = record {
   done : List Entry;

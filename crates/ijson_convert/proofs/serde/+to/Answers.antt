@@ -20,7 +20,7 @@ use Rattle.ijson_convert.proofs.pairs.PairTrees.{has_middle, deep_middle, key_is
 use Rattle.ijson_convert.proofs.serde_trees.SerdeMeanings.{array_means, array_unmeant, object_means, object_unmeant}
 use Rattle.ijson_convert.proofs.serde.+to.Goals as goal
 
--- ---- an element
+-- ---- Answers about `to_items`
 pub to_items-loop-item-init : goal.to_items-loop-item-init
 to_items-loop-item-init t c =
     record {
@@ -61,7 +61,7 @@ to_items-loop-item-preserved t c =
       room = omega (arith, c.push_reserved.ensures.capacity, c.loop-item.invariant.room);
     }
 
--- ---- a value
+-- ---- Answers about `to_serde`
 pub to_serde-returns-in_err-to_serde_number-in-Number-clause-refused : goal.to_serde-returns-in_err-to_serde_number-in-Number-clause-refused
 to_serde-returns-in_err-to_serde_number-in-Number-clause-refused t c =
     let is = ap (λ v. v.tree) (sym c.destructure_ref.ensures ∙ ap ref_value c.in-Number.is) in
@@ -79,7 +79,7 @@ to_serde-returns-in_err-to_serde_map-in-Object-clause-refused t c =
     let is = ap (λ v. v.tree) (sym c.destructure_ref.ensures ∙ ap ref_value c.in-Object.is) in
     passed_on _ _ c.from_residual-in_err-to_serde_map-in-Object.ensures.1 (refused_too (λ none. subst NoSerdeMeans (sym is) none) c.in_err-to_serde_map-in-Object.ensures.refused)
 
--- ---- a member
+-- ---- Answers about `to_serde_map`
 pub to_serde_map-loop-key-init : goal.to_serde_map-loop-key-init
 to_serde_map-loop-key-init t c =
     let none : c.new-map.result.entries ≡ [] = search rules in

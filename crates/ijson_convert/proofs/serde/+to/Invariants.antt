@@ -8,7 +8,7 @@ use Rattle.ijson_value.specs.WellFormed.{WellFormed, item_trees}
 use Rattle.ijson_convert.specs.SerdeTree.{SerdeMeans}
 use Rattle.ijson_convert.proofs.serde.+to.Given as goal
 
--- the elements so far mean the same, in a list with capacity for all
+-- The list means the same as the elements so far, and has capacity for all elements.
 abbrev pub invariant-to_items-loop-item : goal.invariant-to_items-loop-item
 invariant-to_items-loop-item l = record {
   means : SerdeMeans (serde.array (items_view l.list.items)) (array_tree (take l.item-index l.items));
@@ -16,7 +16,7 @@ invariant-to_items-loop-item l = record {
   room : length l.items ≤ vec_capacity l.list;
 }
 
--- so do the members so far
+-- The map means the same as the entries so far.
 abbrev pub invariant-to_serde_map-loop-key : goal.invariant-to_serde_map-loop-key
 invariant-to_serde_map-loop-key l = record {
   done : List (List ℕ × WellFormed);

@@ -19,7 +19,7 @@ use Rattle.ijson_convert.proofs.values_to.+copy.Given.{Over}
 use Rattle.ijson_convert.proofs.values_to.+copy.Goals as goal
 use Rattle.ijson_convert.proofs.values_to.+copy.Goals.{copy_pairs-After-intern, copy_pairs-After-from_pairs}
 
--- ---- an element
+-- ---- Answers about `copy_items`
 pub copy_items-copy_value-requires : goal.copy_items-copy_value-requires
 copy_items-copy_value-requires g t c =
     let below = item-items_depth c.args.items.now c.loop-item.item-index c.item-item.result c.loop-item-test.true c.item-item.is in
@@ -55,7 +55,7 @@ copy_items-returns-clause-cache g t c =
     c.loop-item.invariant.1 ∙ ap (λ vs. all_interned (texts_of (array_tree vs)) c.args.cache.now)
     (take_all c.loop-item.item-index c.args.items.now c.loop-item-test.false)
 
--- ---- an entry
+-- ---- Answers about `copy_pairs`
 pub copy_pairs-loop-key-init : goal.copy_pairs-loop-key-init
 copy_pairs-loop-key-init g t c = record {
   done = [];
@@ -64,7 +64,7 @@ copy_pairs-loop-key-init g t c = record {
   room = search rules;
 }
 
--- the entries of the object are the entries so far, the current entry and the entries left
+-- The object consists of the entries so far, the current entry and the remaining entries.
 pair_parts : (g : Over) (t : ℕ) (c : copy_pairs-After-intern g t)
     → c.args.object.now.pairs ≡ c.loop-key.invariant.done ++ (c.in-Some.key.now, c.in-Some.value.now) ∷ c.next.new.self
 pair_parts g t c = c.loop-key.invariant.parts ∙ ap (λ ps. c.loop-key.invariant.done ++ ps) c.in-Some.ensures.steps
@@ -77,7 +77,8 @@ copy_pairs-copy_value-requires g t c =
     (deep_middle c.loop-key.invariant.done (c.in-Some.key.now, u) c.next.new.self) in
     λ κs lives. (omega (arith, below, c.decreases), lives)
 
--- interning some first strings of the current entry is interning some first strings of the object
+-- If some leading strings of the current entry were interned, so were some leading strings of the
+-- object.
 pair_begun : (g : Over) (t : ℕ) (c : copy_pairs-After-intern g t) (new : Texts)
     → SomeInterned (c.as_str.result.now ∷ texts_of c.in-Some.value.now.tree) c.loop-key.cache new
     → SomeInterned (texts_of (object_tree c.args.object.now.pairs)) c.args.cache.now new
@@ -128,13 +129,13 @@ copy_pairs-loop-key-preserved g t c =
       );
     }
 
--- if no entry is left, the entries so far are all entries
+-- If the iterator has ended, the entries so far are all entries of the object.
 all_done : (g : Over) (t : ℕ) (c : copy_pairs-After-from_pairs g t) → c.loop-key.invariant.done ≡ c.args.object.now.pairs
 all_done g t c =
     let done = c.loop-key.invariant.done in
     sym (c.loop-key.invariant.parts ∙ ap (λ ps. done ++ ps) c.in-None.ensures.steps.0 ∙ append-nil done)
 
--- after the last entry, all strings of the object are interned
+-- If the iterator has ended, all strings of the object were interned.
 all_texts : (g : Over) (t : ℕ) (c : copy_pairs-After-from_pairs g t)
     → c.loop-key.cache ≡ all_interned (texts_of (object_tree c.args.object.now.pairs)) c.args.cache.now
 all_texts g t c =

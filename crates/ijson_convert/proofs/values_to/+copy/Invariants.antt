@@ -9,13 +9,14 @@ use Rattle.ijson_convert.specs.TextsOf.{texts_of}
 use Rattle.ijson_convert.proofs.pairs.PairsPut.{SoFar}
 use Rattle.ijson_convert.proofs.values_to.+copy.Given as goal
 
--- the elements so far are copied, and their strings interned
+-- The elements so far are copied, and their strings are interned.
 abbrev pub invariant-copy_items-loop-item : goal.invariant-copy_items-loop-item
 invariant-copy_items-loop-item g l =
     (map tree_of l.array.items ≡ map tree_of (take l.item-index l.items))
     × (l.cache ≡ all_interned (texts_of (array_tree (take l.item-index l.items))) l.fn.cache)
 
--- the entries so far are copied, their strings are interned, and the list has capacity for those left
+-- The entries so far are copied, their strings are interned, and the list has capacity for the
+-- remaining entries.
 abbrev pub invariant-copy_pairs-loop-key : goal.invariant-copy_pairs-loop-key
 invariant-copy_pairs-loop-key g l = record {
   done : List (List ℕ × WellFormed);

@@ -10,7 +10,8 @@ use Rattle.ijson_extra.specs.private.Joined.{change_of, joined, old_trees, shown
 use Rattle.ijson_extra.proofs.patching.Joined.{change_depth, changes_depth, made}
 use Rattle.ijson_extra.proofs.merge_patch.+merge.Given as goal
 
--- the remaining members turn the object into what the whole patch makes of the target
+-- Merging the remaining members of the patch into the object has the same result as merging the
+-- complete patch into the target.
 abbrev pub invariant-changed_in_turn-loop-key : goal.invariant-changed_in_turn-loop-key
 invariant-changed_in_turn-loop-key l = record {
   below : members_depth (pair_trees l.key-iterator) ≤ members_depth (pair_trees l.fn.changes.pairs);
@@ -18,7 +19,8 @@ invariant-changed_in_turn-loop-key l = record {
       ≡ merged_into (members_in (object_tree l.fn.object.pairs)) (pair_trees l.fn.changes.pairs);
 }
 
--- the members made so far, and those that the remaining keys make of the remaining old values, are all
+-- The entries so far, followed by the entries made from the remaining keys and old values, are all
+-- entries of the result.
 abbrev pub invariant-changed_at_once-loop-key : goal.invariant-changed_at_once-loop-key
 invariant-changed_at_once-loop-key l = record {
   below : changes_depth (map shown (into_iter_items l.key-iterator)) ≤ members_depth (pair_trees l.fn.changes.pairs);

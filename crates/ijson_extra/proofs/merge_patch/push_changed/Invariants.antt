@@ -3,7 +3,8 @@ use Rattle.std.specs.Prelude.{vec_capacity}
 use Rattle.ijson_extra.specs.private.Joined.{shown, all_changed}
 use Rattle.ijson_extra.proofs.merge_patch.push_changed.Given as goal
 
--- the keys listed and those left are all, and there is room for them
+-- The listed keys, followed by the remaining keys of the patch, are all keys. The list has capacity
+-- for them.
 abbrev pub invariant-loop-key : goal.invariant-loop-key
 invariant-loop-key l = record {
   all : map shown l.keys.items ++ all_changed l.key-iterator ≡ map shown l.initial.keys.items ++ all_changed l.changes.pairs;

@@ -4,7 +4,7 @@ use Rattle.ijson_table.specs.Store.{at, lookup}
 use Rattle.ijson_extra.specs.Pointer.{meant}
 use Rattle.ijson_extra.proofs.pointer.find_member.Given as goal
 
--- the key is none of the first `position` ones
+-- The first `position` entries lack the key that the token means.
 abbrev pub invariant-loop-position : goal.invariant-loop-position
 invariant-loop-position l = record {
   fits : l.position + length l.key-iterator < 2 ^ 64;

@@ -5,7 +5,8 @@ use Rattle.ijson_extra.specs.Pointer.{resolved}
 use Rattle.ijson_extra.proofs.Pointers.{outcome}
 use Rattle.ijson_extra.proofs.pointer.resolve.Given as goal
 
--- the result for the pointer is that for the value found so far and the rest
+-- Following the remaining tokens from the value found so far has the same result as following all
+-- tokens from the outer value.
 abbrev pub invariant-loop-found : goal.invariant-loop-found
 invariant-loop-found l = record {
   utf8 : shadow (Utf8 l.left);

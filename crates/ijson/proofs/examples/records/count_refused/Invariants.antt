@@ -3,7 +3,7 @@ use Rattle.ijson_value.specs.WellFormed.{item_trees}
 use Rattle.ijson.specs.examples.Records.{LackId}
 use Rattle.ijson.proofs.examples.records.count_refused.Given as goal
 
--- adding the remaining elements without an id gives the total
+-- If `n` of the remaining elements lack an id, `count + n` of all elements lack an id.
 abbrev pub invariant-loop-item : goal.invariant-loop-item
 invariant-loop-item l = record {
   within : l.count ≤ l.item-index;

@@ -6,7 +6,7 @@ use Rattle.ijson_value.proofs.Walks.{front, values_depth}
 use Rattle.ijson.proofs.example_lemmas.Totals.{values_sum, IsLeft, all_left, none_left, first_below, none_first, none_more, one_more}
 use Rattle.ijson.proofs.examples.total.+total.Goals as goal
 
--- ---- elements
+-- ---- Answers about `total_of_items`
 pub total_of_items-loop-item-init : goal.total_of_items-loop-item-init
 total_of_items-loop-item-init t c = all_left c.args.items.now _ _ refl refl
 
@@ -36,7 +36,7 @@ pub total_of_items-returns-clause-some : goal.total_of_items-returns-clause-some
 total_of_items-returns-clause-some t c =
     none_left _ _ _ _ c.loop-item.invariant (drop_of_length-le c.args.items.now c.loop-item-test.false)
 
--- ---- members
+-- ---- Answers about `total_of_members`
 pub total_of_members-loop-value-init : goal.total_of_members-loop-value-init
 total_of_members-loop-value-init t c =
     let ps = c.args.object.now.pairs in

@@ -6,7 +6,8 @@ use Rattle.ijson_value.specs.WellFormed.{tree_of}
 use Rattle.ijson_convert.proofs.reading.ItemsRead.{AllRead}
 use Rattle.ijson_convert.proofs.lists_from.VecFromIValue.from_ivalue.Given as goal
 
--- the elements so far are read and mean the same, and each null that may be None is; the list has capacity for all of them
+-- The list means the same as the elements so far, which are accepted, and has capacity for all
+-- elements. `null_is_none` holds for each element of the list.
 abbrev pub invariant-loop-item : goal.invariant-loop-item
 invariant-loop-item g l =
     let items = map tree_of (take l.item-index l.item-items) in

@@ -1,4 +1,5 @@
--- A value lends itself, or the value inside it that a pointer refers to. Assumes `Logic`.
+-- `pointer_mut` lends the value itself, or the value inside it that the pointer refers to. Assumes
+-- `Logic`.
 use Rattle.ijson_value.proofs.lends.Steps.{◌≡◌, ◌∙◌, ℕ, List, [], ◌∷◌, refl, sym, ap, lit<, MutBor, proved, id⊢, emp, ftrue, flft, named}
 use Rattle.ijson_value.proofs.lends.Steps.{Val, vptr, fact, fact_i, tables, ‵, raw, ◌⊛◌, at_ret, ◌$◌, ◌∵◌, !, qed, done, move, keep}
 use Rattle.ijson_value.proofs.lends.Steps.{use0, use1, use2, split, join, fjoin, feq_l, suffices, frame, enter, lit, addr, says}
@@ -45,7 +46,7 @@ pointer_mut_spec 𝓤 𝓛 𝓜 𝓡 wired =
     qed 𝓛 (((‵ (flft κ q) ⊛ ‵ (flft κ' q') ⊛ ‵ ftrue) ⊛ ‵ (Lent.own_val r vs) ⊛ ‵ (S.own_val p ps) ⊛ ‵ ftrue) ∷ ‵ ftrue ∷ []) ∵
     split ! $ split ! $ move ! (1 ∷ []) $ split ! $ move ! (3 ∷ []) $ split ! $ move ! (1 ∷ []) $ split ! $ keep ! (2 ∷ 5 ∷ 3 ∷ 0 ∷ []) $
     enter ! _ _ _ _ _ $ alloc_all ! (λ l. pass_all ! refl ((tt, tt), ((((str-laws at).lawful 𝓛).typed p ps are.1.0).0, tt)) $
-    -- [value; its token; the text's token; the text]
+    -- The context: the value, its lifetime token, the lifetime token of the pointer, the pointer.
     move ! (3 ∷ []) $ use1 𝓛 (‵ (S.own_val p ps) ⊛ ‵ (S.own_val p ps)) (((str-copy at).copies _ 𝓤 𝓛).twice p ps) $ split ! $
     let G = triple_of 𝓛 g.signature (g.spec 𝓛 𝓜.mem 𝓡.returns) in
     let z : G.Ghost = (((κ', tt), (q', tt), tt, (p, tt), (ps, tt)), tt) in
@@ -53,7 +54,7 @@ pointer_mut_spec 𝓤 𝓛 𝓜 𝓡 wired =
     (g-thm.met 𝓤 𝓛 𝓜 𝓡 (code.calls-ijson_extra::pointer::lend::names_itself 𝓡.env wired)) z bool bool_laws (S.own_val p ps) (id⊢ 𝓤 _) (and_then ! (get ! refl) (no_more !)) (λ t (ends : Unit {0} × Unit {0}). lasts g.ended (κ', tt) (p, tt) ends)
     (λ (t : Bool). raw (fact 𝓤 (IsTrue t ↔ (p.now ≡ [])))) (λ v. id⊢ 𝓤 _) (λ v t _. heard ! _ (λ said. feq_l ! (λ is.
     lands_as ! (ap only is) refl (tt, tt) $
-    -- [the text's token; the text; value; its token]
+    -- The context: the lifetime token of the pointer, the pointer, the value, its lifetime token.
     first ! $ branches ! (get ! refl)
     (λ itself. let empty = sym (said.0 (truth t itself)) in let ptr : Val = vptr r.ref_ptr.0 r.ref_ptr.1 in
     sets ! (addr ! (through ! refl (stop !))) refl (tt, tt) $
@@ -76,7 +77,8 @@ pointer_mut_spec 𝓤 𝓛 𝓜 𝓡 wired =
     (λ (u : MutBor Destructured). ‵ (follows V N r.ghost_name u.ghost_name node_value) ⊛ raw (fact 𝓤 (node_value u.now ≡ r.now)))
     (λ x. id⊢ 𝓤 _) (λ x u typed. lands_as ! refl refl typed.0 $ split ! $ move ! (1 ∷ []) $
     heard ! _ (λ e. let same = ap (λ (w : WellFormed). w.tree) e in
-    -- [the formula of value; the content; its token; the text's token; the text]
+    -- The context: the formula of the value, its content, the lifetime token of the content, the
+    -- lifetime token of the pointer, the pointer.
     let H = triple_of 𝓛 h.signature (h.spec 𝓛 𝓜.mem 𝓡.returns) in
     let z₃ : H.Ghost = ((κs, qs, tt, (u, (p, tt)), ((x ∷ []), (ps, tt))), tt) in
     move ! (1 ∷ 4 ∷ 2 ∷ 3 ∷ []) $ finds 𝓛 ! κ q (framed 𝓤 𝓛.H 𝓜 𝓣) H
@@ -87,7 +89,8 @@ pointer_mut_spec 𝓤 𝓛 𝓜 𝓡 wired =
     (λ (ends : Unit {0} × (Unit {0} × Unit {0})). lasts h.ended κs (u, (p, tt)) ends) (LendsNamedInside u p.now)
     (λ (x' : Option (MutBor WellFormed)). raw (fact 𝓤 (tree_lent x' ≡ found_at (node_tree u.now) p.now))) (λ w. id⊢ 𝓤 _)
     (λ w x' typed'. heard ! _ (λ found. lands_as ! refl refl typed'.0 $ returns ! (look_at ! 0 refl) $ free_all ! refl $
-    -- [the result; the formula of the content; its token; the text's token; the formula of value]
+    -- The context: the result, the formula of the content, its lifetime token, the lifetime token
+    -- of the pointer, the formula of the value.
     move ! (4 ∷ 1 ∷ []) $ use2 𝓛 (‵ (LendsPointed V (λ w'. w'.tree) r p.now x'))
     (then_such 𝓛 V N V node_value (λ w' n. OnSome x' (node_tree n ≡ resolved_with (node_tree u.now) p.now w'.tree))
     (λ n. node_tree n ≡ node_tree u.now) (λ w' n. OnSome x' (P w' n)) P₀

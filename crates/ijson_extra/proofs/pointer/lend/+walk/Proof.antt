@@ -1,4 +1,4 @@
--- A recursive walk lends the value that its tokens lead to. Assumes `Logic`.
+-- `walk` lends the value that its tokens lead to, by recursion. Assumes `Logic`.
 use Rattle.ijson_value.proofs.lends.Steps.{◌≡◌, ◌∙◌, subst, says, fpick, ℕ, List, [], ◌∷◌, refl, sym, ap, lit<, MutBor, id⊢}
 use Rattle.ijson_value.proofs.lends.Steps.{ftrue, flft, fres, named, Val, vptr, fact, tables, ‵, raw, ◌⊛◌, at_ret, ◌$◌}
 use Rattle.ijson_value.proofs.lends.Steps.{◌∵◌, !, qed, done, move, keep, use0, use1, use2, use3, split, join, rewrite, fjoin}
@@ -46,11 +46,11 @@ use Rattle.ijson_extra.proofs.pointer.lend.behind_first.Met as b-thm
 abbrev stayed : Stays f.ended.signature.params f.ended.kept
 stayed = (stay_dropped (mut_ref_to (0 ∷ []) tt (plain (λ _. N))) no, (stay_dropped (StrRefOf (1 ∷ []) tt) yes, tt))
 
--- the possible results of a call
+-- The result of a call: the value that is lent, if any.
 abbrev Found : Type 0
 Found = Option (MutBor V.Denot)
 
--- the text after the first token, if there is one
+-- The text after the first token, if any.
 abbrev Rest : Type 0
 Rest = Option (Bor (List ℕ))
 
@@ -77,7 +77,7 @@ pub +walk_spec : {M : Type 1} → statement M
     ∷ ‵ ftrue ∷ []) ∵
     split ! $ split ! $ move ! (1 ∷ []) $ split ! $ move ! (3 ∷ []) $ split ! $ move ! (1 ∷ []) $ split ! $ keep ! (2 ∷ 5 ∷ 3 ∷ 0 ∷ []) $
     enter ! _ _ _ _ _ $ alloc_all ! (λ l. pass_all ! refl ((tt, tt), ((((str-laws at).lawful 𝓛).typed p ps are.1.0).0, tt)) $
-    -- [the content; its token; the text's token; the text]
+    -- The context: the content, its lifetime token, the lifetime token of the text, the text.
     sets ! (addr ! (through ! refl (stop !))) refl (tt, tt) $
     move ! (3 ∷ []) $ use1 𝓛 (‵ (S.own_val p ps) ⊛ ‵ (S.own_val p ps)) (((str-copy at).copies _ 𝓤 𝓛).twice p ps) $ split ! $
     let G = triple_of 𝓛 g.signature (g.spec 𝓛 𝓜.mem 𝓡.returns) in
@@ -89,7 +89,8 @@ pub +walk_spec : {M : Type 1} → statement M
     (λ (ends : Unit {0} × (Unit {0} × Unit {0})). lasts g.ended (κ, (κ', tt)) (r, (p, tt)) ends) (LendsNamed r token)
     (λ (x : Found). raw (fact 𝓤 (tree_lent x ≡ written_at old token))) (λ v. id⊢ 𝓤 _) (λ v x _. heard ! _
     (λ found. move ! (3 ∷ []) $ split ! $ move ! (3 ∷ 0 ∷ 1 ∷ 4 ∷ 2 ∷ []) $
-    -- [the formula of the content; the text's token; nothing; its token; the result; the text]
+    -- The context: the formula of the content, the lifetime token of the text, `ftrue`, the
+    -- lifetime token of the content, the result, the text.
     by_option x
     (λ none. rewrite ! 0 (λ (x' : Found). ‵ (LendsNamed r token x')) none refl $
     rewrite ! 4 (λ (x' : Found). ‵ ((OptionOf Lent).own_val x' (v ∷ []))) none refl $
@@ -117,7 +118,8 @@ pub +walk_spec : {M : Type 1} → statement M
     (λ xs led. peeks ! Lent _ (shows 𝓛 Lent) value xs (λ told. let is_at = mut_Tells (named 0) κ V value xs told in
     rewrite ! 0 (λ (us : List Val). ‵ (Lent.own_val value us)) is_at refl $
     lands_as ! (ap only led ∙ ap (λ (us : List Val). live 1 (of_list (us ++ []))) is_at) refl (tt, (record { fits = lit< tt }, (tt, tt))) $
-    -- [the value; the formula of the content; the text's token; nothing; its token; the text]
+    -- The context: the value, the formula of the content, the lifetime token of the text, `ftrue`,
+    -- the lifetime token of the content, the text.
     first ! $ switches ! (get_tag ! (vrt ! refl (fld ! refl (stop !))) (whole !)) (
       (λ _. sets_last ! (of_opd ! (get_in ! (vrt ! refl (fld ! refl (stop !))) (in_variant ! 1 0 refl refl (whole !)))) refl (tt, tt) $
           exec ! 𝓣.C 𝓣.Λ (env code.locals l) code.t-4 (at_ret (env code.locals l) (W.post y)) $
@@ -132,7 +134,8 @@ pub +walk_spec : {M : Type 1} → statement M
           × (written_tokens p.now ≡ token ∷ written_tokens left.now))))
           ⊛ raw (fact 𝓤 (IfNone o (written_tokens p.now ≡ token ∷ [])))) (λ v₃. id⊢ 𝓤 _)
           (λ v₃ o _. split ! $ heard ! _ (λ more_left. heard ! _ (λ none_left.
-          -- [the rest; the text's token; the value; the formula of the content; nothing; its token]
+          -- The context: the rest of the text, the lifetime token of the text, the value, the
+          -- formula of the content, `ftrue`, the lifetime token of the content.
           by_option o
           (λ alone. let last = subst (λ (o' : Rest). IfNone o' (written_tokens p.now ≡ token ∷ [])) alone none_left in
           rewrite ! 0 (λ (o' : Rest). ‵ ((OptionOf S).own_val o' (v₃ ∷ []))) alone refl $ none_out ! S (v₃ ∷ []) (λ led₃.
@@ -182,7 +185,9 @@ pub +walk_spec : {M : Type 1} → statement M
                 ⊛ raw (fact 𝓤 (node_value u.now ≡ value.now)))
                 (λ v₂. id⊢ 𝓤 _) (λ v₂ u typed₂. lands_as ! refl refl typed₂.0 $ split ! $ move ! (1 ∷ []) $
                 heard ! _ (λ same. let same' = ap (λ (w : WellFormed). w.tree) same in
-                -- [the formula of the value; its content; its token; the rest; the text's token; the formula of the content; nothing]
+                -- The context: the formula of the value, its content, the lifetime token of this
+                -- content, the rest of the text, the lifetime token of the text, the formula of the
+                -- outer content, `ftrue`.
                 let G₄ = triple_of 𝓛 f.signature (f.spec 𝓛 𝓜.mem 𝓡.returns) in
                 let z₄ : G₄.Ghost = ((κs, qs, y'.0.2, (u, (left, tt)), ((v₂ ∷ []), (ls, tt))), tt) in
                 let once : Contract 𝓤 = record {
@@ -197,7 +202,9 @@ pub +walk_spec : {M : Type 1} → statement M
                 (λ (ends : Unit {0} × (Unit {0} × Unit {0})). lasts f.ended κs (u, (left, tt)) ends) (LendsNamedInside u (47 ∷ left.now))
                 (λ (o' : Found). raw (fact 𝓤 (tree_lent o' ≡ found_at (node_tree u.now) (47 ∷ left.now)))) (λ v₄. id⊢ 𝓤 _)
                 (λ v₄ o' typed₄. heard ! _ (λ deeper. lands_as ! refl refl typed₄.0 $ returns ! (look_at ! 0 refl) $ free_all ! refl $
-                -- [the result; the formula of the value's content; its token; the text's token; the formula of the value; that of the content; ..]
+                -- The context: the result, the formula of the value's content, its lifetime token,
+                -- the lifetime token of the text, the formula of the value, the formula of the
+                -- outer content, and more.
                 move ! (5 ∷ 4 ∷ 1 ∷ []) $ use3 𝓛 (‵ (LendsNamedInside r whole_text o'))
                 (step_on 𝓛 N V V N (O (Some value)) P₀ node_value
                 (λ w n. OnSome o' (node_tree n ≡ resolved_with (node_tree u.now) (47 ∷ left.now) w.tree)) (λ n. node_tree n ≡ node_tree u.now)

@@ -5,7 +5,7 @@ use Rattle.std.specs.Prelude.{is_some}
 use Rattle.ijson_extra.specs.Pointer.{all_meant, written_tokens}
 use Rattle.ijson_extra.proofs.pointer.lend.are_tokens.Given as goal
 
--- all tokens so far mean something
+-- All tokens have a meaning exactly if the remaining tokens have a meaning.
 abbrev pub invariant-loop-behind : goal.invariant-loop-behind
 invariant-loop-behind l = record {
   utf8 : shadow (Utf8 l.left);

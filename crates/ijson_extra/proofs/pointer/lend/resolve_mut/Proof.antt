@@ -1,4 +1,4 @@
--- A value lends the value inside it that a pointer refers to. Assumes `Logic`.
+-- `resolve_mut` lends the value that the pointer refers to. Assumes `Logic`.
 use Rattle.ijson_value.proofs.lends.Steps.{◌≡◌, ◌∙◌, ℕ, List, [], ◌∷◌, refl, sym, ap, lit<, MutBor, proved, id⊢, ftrue, flft, named}
 use Rattle.ijson_value.proofs.lends.Steps.{Val, fact, tables, ‵, raw, ◌⊛◌, at_ret, ◌$◌, ◌∵◌, !, qed, done, move, keep}
 use Rattle.ijson_value.proofs.lends.Steps.{use0, use1, split, join, fsplit3, fjoin, feq_l, suffices, frame, enter, lit, addr}
@@ -47,7 +47,7 @@ resolve_mut_spec 𝓤 𝓛 𝓜 𝓡 wired =
     qed 𝓛 (((‵ (flft κ q) ⊛ ‵ (flft κ' q') ⊛ ‵ ftrue) ⊛ ‵ (Lent.own_val r vs) ⊛ ‵ (S.own_val p ps) ⊛ ‵ ftrue) ∷ ‵ ftrue ∷ []) ∵
     split ! $ split ! $ move ! (1 ∷ []) $ split ! $ move ! (3 ∷ []) $ split ! $ move ! (1 ∷ []) $ split ! $ keep ! (2 ∷ 5 ∷ 3 ∷ 0 ∷ []) $
     enter ! _ _ _ _ _ $ alloc_all ! (λ l. pass_all ! refl ((tt, tt), ((((str-laws at).lawful 𝓛).typed p ps are.1.0).0, tt)) $
-    -- [value; its token; the text's token; the text]
+    -- The context: the value, its lifetime token, the lifetime token of the pointer, the pointer.
     move ! (3 ∷ []) $ use1 𝓛 (‵ (S.own_val p ps) ⊛ ‵ (S.own_val p ps)) (((str-copy at).copies _ 𝓤 𝓛).twice p ps) $ split ! $
     let G = triple_of 𝓛 g.signature (g.spec 𝓛 𝓜.mem 𝓡.returns) in
     let z : G.Ghost = (((κ', tt), (q', tt), tt, (p, tt), (ps, tt)), tt) in
@@ -55,7 +55,7 @@ resolve_mut_spec 𝓤 𝓛 𝓜 𝓡 wired =
     (g-thm.met 𝓤 𝓛 𝓜 𝓡 (code.calls-ijson_extra::pointer::lend::is_pointer 𝓡.env wired)) z bool bool_laws (S.own_val p ps) (id⊢ 𝓤 _) (and_then ! (get ! refl) (no_more !)) (λ t (ends : Unit {0} × Unit {0}). lasts g.ended (κ', tt) (p, tt) ends)
     (λ (t : Bool). raw (fact 𝓤 (t ≡ is_some (tokens_of p.now)))) (λ v. id⊢ 𝓤 _) (λ v t _. heard ! _ (λ said. feq_l ! (λ is.
     lands_as ! (ap only is) refl (tt, tt) $
-    -- [the text's token; the text; value; its token]
+    -- The context: the lifetime token of the pointer, the pointer, the value, its lifetime token.
     first ! $ branches ! (get ! refl)
     (λ good. sets ! (addr ! (through ! refl (stop !))) refl (tt, tt) $
     let H = triple_of 𝓛 h.signature (h.spec 𝓛 𝓜.mem 𝓡.returns) in
@@ -70,7 +70,8 @@ resolve_mut_spec 𝓤 𝓛 𝓜 𝓡 wired =
     sets ! (agg ! (and_then ! (lit ! tt) (and_then ! (get ! refl) (no_more !)))) refl
     (and_tt _ typed.0.0, (record { fits = lit< tt }, (typed.0.1, tt))) $
     returns_within ! (W.post y) refl (look_at ! 0 refl) $ free_all ! refl $
-    -- [the result; the formula of value; its token; the text's token]
+    -- The context: the result, the formula of the value, its lifetime token, the lifetime token of
+    -- the pointer.
     use1 𝓛 (‵ (Out.own_val (Ok o) (live 0 (of_list (w ∷ [])) ∷ []))) (Ok-of 𝓛 (OptionOf Lent) E o w) $
     move ! (3 ∷ []) $ split ! $ keep ! (2 ∷ 4 ∷ 0 ∷ 3 ∷ []) $
     suffices ! _ (ends_at 𝓛 f.ended stayed c y (live 0 (of_list (w ∷ []))) (Ok o) (tt, (tt, tt)) (tt, (tt, tt))) $

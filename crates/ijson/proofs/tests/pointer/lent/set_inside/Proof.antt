@@ -1,4 +1,4 @@
--- A caller that writes one step inside a value. Assumes `Logic`.
+-- A caller that writes to the part at one step inside a value. Assumes `Logic`.
 use Rattle.ijson_value.proofs.lends.Steps.{◌≡◌, ℕ, List, [], ◌∷◌, refl, ap, ◌∙◌, MutBor, proved, full_share, id⊢, Lft, ftrue, flft}
 use Rattle.ijson_value.proofs.lends.Steps.{named, Val, vunit, emp, fact, fact_i, tables, ‵, raw, ◌⊛◌, ◌$◌, ◌∵◌, !, qed, done, move, keep}
 use Rattle.ijson_value.proofs.lends.Steps.{use0, split, join, feq_i, suffices, frame, enter, of_opd, addr, unit_lit, stop, no_more}
@@ -29,7 +29,7 @@ use Rattle.ijson.proofs.tests.pointer.lent.put_found.Met as h-thm
 abbrev P : WellFormed → Step → Option (MutBor WellFormed) → WellFormed → WellFormed → Type 0
 P v step x w n = OnSome x (n.tree ≡ tree_with v.tree step w.tree)
 
--- the value is written, or it is unchanged and nothing is there
+-- The part at `step` is `true`, or the value is unchanged if the part does not exist.
 there : (v n : WellFormed) (step : Step) (x o : Option (MutBor WellFormed)) → option_map (λ found. found.now.tree) x ≡ tree_at v.tree step
     → ghost_name_of x ≡ ghost_name_of o → IfSome o (λ place. place.now ≡ boolean_value true) → Left (P v step x) (λ u. u ≡ v) o n
     → (IsSome (tree_at v.tree step) → n.tree ≡ tree_with v.tree step (boolean true)) × (tree_at v.tree step ≡ None → n ≡ v)
@@ -58,10 +58,11 @@ set_inside_spec 𝓤 𝓛 𝓜 𝓡 wired I LI CI gx dx gs ds gc dc mx ms mc =
     move ! (1 ∷ []) $ heard ! _ (λ out. move ! (1 ∷ []) $ heard ! _ (λ kind.
     split ! $ split ! $ move ! (1 ∷ []) $ split ! $ move ! (3 ∷ []) $ split ! $ move ! (1 ∷ []) $ split ! $ keep ! (2 ∷ 5 ∷ 3 ∷ 0 ∷ []) $
     enter ! _ _ _ _ _ $ alloc_all ! (λ l. pass_all ! refl ((tt, tt), ((((copied_laws 0 I LI).lawful 𝓛).typed k ks are.1.0).0, tt)) $
-    -- [the value; its token; the index's token; the index]
+    -- The context: the value, its lifetime token, the lifetime token of the index, the index.
     sets ! (addr ! (through ! refl (stop !))) refl (tt, tt) $
     lent 𝓛 ! tt V κ q r (λ α δ. let β : Lft = α ∷ [] in
-    -- [the loan; what the lender keeps; the token of α; the index's token; the index]
+    -- The context: the loan, what the lender keeps, the lifetime token of `α`, the lifetime token
+    -- of the index, the index.
     let r' : MutBor WellFormed = record r { ghost_name = δ } in let Found = OptionOf (MutRef (named 0) β V) in
     let G = triple_of 𝓛 (g.signature I) (g.spec I gx dx gs ds gc dc 𝓛 𝓜.mem 𝓡.returns) in
     let z : G.Ghost = (((β, (κ', tt)), (full_share, (q', tt)), tt, (k, (r', tt)), (ks, (vs, tt))), tt) in
@@ -75,7 +76,8 @@ set_inside_spec 𝓤 𝓛 𝓜 𝓡 wired I LI CI gx dx gs ds gc dc mx ms mc =
     (λ (ws : Unit {0} × (Unit {0} × Unit {0})). lasts (g.ended I gx dx gs ds gc dc) (β, (κ', tt)) (k, (r', tt)) ws) (LendsInsideIf r' step)
     (λ (x : Option (MutBor WellFormed)). raw (fact 𝓤 (option_map (λ found. found.now.tree) x ≡ tree_at r.now.tree step))) (λ v. id⊢ 𝓤 _)
     (λ v x typed. lands_as ! refl refl typed.0 $ heard ! _ (λ at.
-    -- [the part; the formula of the loan; the token of α; the index's token; what the lender keeps]
+    -- The context: the part, the formula of the loan, the lifetime token of `α`, the lifetime token
+    -- of the index, what the lender keeps.
     let H = triple_of 𝓛 h.signature (h.spec 𝓛 𝓜.mem 𝓡.returns) in
     let z' : H.Ghost = (((β, tt), (full_share, tt), tt, (x, tt), ((v ∷ []), tt)), tt) in
     move ! (0 ∷ 2 ∷ []) $ maps 𝓛 ! β full_share (framed 𝓤 𝓛.H 𝓜 𝓣) H

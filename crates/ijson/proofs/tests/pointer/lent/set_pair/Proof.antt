@@ -35,7 +35,7 @@ use Rattle.ijson_value.proofs.object.index.ObjectIndex.index_into_mut.Met as g-t
 use Rattle.ijson.specs.contracts.tests.pointer.lent.put_entry as h
 use Rattle.ijson.proofs.tests.pointer.lent.put_entry.Met as h-thm
 
--- an object without a key
+-- If an object lacks a key, writing to this key does not change the object.
 is_missing : (o : Store WellFormed) (key : List ℕ) (w : WellFormed) (m : Option ℕ) → place_of o.pairs key ≡ m
     → None ≡ option_and_then (slice_get o.pairs) m → o ≡ with_found o m w
 is_missing o key w None e none = refl
@@ -50,7 +50,7 @@ Entry = Option (Bor (List ℕ) × MutBor WellFormed)
 abbrev P : Store WellFormed → List ℕ → WellFormed → Store WellFormed → Type 0
 P s key w n = n ≡ with_key s key w
 
--- the entry is written, and a missing key changes nothing
+-- The value of the key is `true`, or the object is unchanged if it lacks the key.
 there : (s n : Store WellFormed) (key : List ℕ) (x : Entry) (o : Option (MutBor WellFormed))
     → option_map deref_pair_mut x ≡ pair_at_key key s.pairs → pair_name x ≡ ghost_name_of o
     → IfSome o (λ place. place.now ≡ boolean_value true) → Left (P s key) (λ u. u ≡ s) o n → n ≡ with_key s key (boolean_value true)
@@ -77,10 +77,11 @@ set_pair_spec 𝓤 𝓛 𝓜 𝓡 wired I LI CI gx dx gs ds gc dc mx ms mc =
     move ! (1 ∷ []) $ heard ! _ (λ out.
     split ! $ split ! $ move ! (1 ∷ []) $ split ! $ move ! (3 ∷ []) $ split ! $ move ! (1 ∷ []) $ split ! $ keep ! (2 ∷ 5 ∷ 3 ∷ 0 ∷ []) $
     enter ! _ _ _ _ _ $ alloc_all ! (λ l. pass_all ! refl ((tt, tt), ((((copied_laws 0 I LI).lawful 𝓛).typed k ks are.1.0).0, tt)) $
-    -- [the value; its token; the index's token; the index]
+    -- The context: the value, its lifetime token, the lifetime token of the index, the index.
     sets ! (addr ! (through ! refl (stop !))) refl (tt, tt) $
     lent 𝓛 ! tt N κ q r (λ α δ. let β : Lft = α ∷ [] in
-    -- [the loan; what the lender keeps; the token of α; the index's token; the index]
+    -- The context: the loan, what the lender keeps, the lifetime token of `α`, the lifetime token
+    -- of the index, the index.
     let r' : MutBor (Store WellFormed) = record r { ghost_name = δ } in let Found = OptionOf (Pair β) in
     let Out = OptionOf (MutRef (named 0) β V) in
     let G = triple_of 𝓛 (g.signature I) (g.spec I gx dx gs ds gc dc 𝓛 𝓜.mem 𝓡.returns) in
@@ -94,7 +95,8 @@ set_pair_spec 𝓤 𝓛 𝓜 𝓡 wired I LI CI gx dx gs ds gc dc mx ms mc =
     (λ (ws : Unit {0} × (Unit {0} × Unit {0})). lasts (g.ended I gx dx gs ds gc dc) (β, (κ', tt)) (k, (r', tt)) ws) (LendsPairIf r' key)
     (λ (x : Entry). raw (fact 𝓤 (option_map deref_pair_mut x ≡ pair_at_key key r.now.pairs))) (λ v. id⊢ 𝓤 _)
     (λ v x typed. lands_as ! refl refl typed.0 $ heard ! _ (λ at.
-    -- [the part; the formula of the loan; the token of α; the index's token; what the lender keeps]
+    -- The context: the part, the formula of the loan, the lifetime token of `α`, the lifetime token
+    -- of the index, what the lender keeps.
     let H = triple_of 𝓛 h.signature (h.spec 𝓛 𝓜.mem 𝓡.returns) in
     let z' : H.Ghost = (((β, tt), (full_share, tt), tt, (x, tt), ((v ∷ []), tt)), tt) in
     move ! (0 ∷ 2 ∷ []) $ maps 𝓛 ! β full_share (framed 𝓤 𝓛.H 𝓜 𝓣) H

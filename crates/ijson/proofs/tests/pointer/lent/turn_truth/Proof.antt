@@ -35,10 +35,10 @@ turn_truth_spec 𝓤 𝓛 𝓜 𝓡 wired =
     qed 𝓛 (((‵ (flft κ q) ⊛ ‵ ftrue) ⊛ ‵ (Ref κ r) ⊛ ‵ ftrue) ∷ ‵ ftrue ∷ []) ∵
     split ! $ split ! $ move ! (2 ∷ []) $ split ! $ keep ! (0 ∷ 2 ∷ []) $
     enter ! _ _ _ _ _ $ alloc_all ! (λ l. pass_all ! refl ((tt, tt), tt) $
-    -- [the value; its token]
+    -- The context: the value, its lifetime token.
     sets ! (addr ! (through ! refl (stop !))) refl (tt, tt) $
     lent 𝓛 ! tt V κ q r (λ α δ. let β : Lft = α ∷ [] in let at : NamedLft = record { mir = named 0; lft = β } in
-    -- [the loan; what the lender keeps; the token of α]
+    -- The context: the loan, what the lender keeps, the lifetime token of `α`.
     let r' : MutBor WellFormed = record r { ghost_name = δ } in
     let G = triple_of 𝓛 g.signature (g.spec 𝓛 𝓜.mem 𝓡.returns) in
     let z : G.Ghost = (((β, tt), (full_share, tt), tt, (r', tt), (vs, tt)), tt) in
@@ -47,14 +47,16 @@ turn_truth_spec 𝓤 𝓛 𝓜 𝓡 wired =
     (id⊢ 𝓤 _) (and_then ! (get ! refl) (no_more !)) (λ x (ws : Unit {0} × Unit {0}). lasts g.ended (β, tt) (r', tt) ws)
     (λ (x : DestructuredMut). ‵ (LendsParts r' x) ⊛ raw (fact 𝓤 (mut_value x ≡ r.now))) (λ v. id⊢ 𝓤 _) (λ v x typed.
     split ! $ move ! (1 ∷ []) $ heard ! _ (λ seen. lands_as ! refl refl typed.0 $
-    -- [the formula of the loan; the parts; the token of α; what the lender keeps]
+    -- The context: the formula of the loan, the parts, the lifetime token of `α`, what the lender
+    -- keeps.
     let H = triple_of 𝓛 h.signature (h.spec 𝓛 𝓜.mem 𝓡.returns) in
     let z' : H.Ghost = (((β, tt), (full_share, tt), tt, (x, tt), ((v ∷ []), tt)), tt) in
     move ! (1 ∷ 2 ∷ []) $ maps 𝓛 ! β full_share (framed 𝓤 𝓛.H 𝓜 𝓣) H
     (h-thm.met 𝓤 𝓛 𝓜 𝓡 (code.calls-ijson::tests::pointer::lent::turned_parts 𝓡.env wired)) z' (PartsOf at) (parts_laws at)
     ((PartsOf at).own_val x (v ∷ [])) (id⊢ 𝓤 _) (and_then ! (get ! refl) (no_more !)) (λ o ws. lasts h.ended (β, tt) (x, tt) ws)
     (λ o. raw (fact 𝓤 (IsTurned x o))) (λ w. id⊢ 𝓤 _) (λ w o typed. heard ! _ (λ is. lands_as ! refl refl typed.0 $
-    -- [the parts; the token of α; the formula of the loan; what the lender keeps]
+    -- The context: the parts, the lifetime token of `α`, the formula of the loan, what the lender
+    -- keeps.
     move ! (0 ∷ 2 ∷ []) $
     use2 𝓛 (‵ (fres δ (V.coded.code (mut_value o)))) (parts_left 𝓛 at r' x o (w ∷ []) is seen) $ move ! (1 ∷ []) $ lft_end ! tt $
     move ! (0 ∷ 2 ∷ 1 ∷ []) $ back 𝓛 ! tt V κ q r α δ (mut_value o) $
