@@ -1,2 +1,2 @@
--- The known bytes that devices read and wrote.
+-- Lemmas about the known bytes that devices read and write.
 pub mod TransferredBytes

@@ -1,4 +1,4 @@
--- The error of a text: places in a text, and what stands there.
+-- Lemmas about the error of a text: where a value or a character may begin, and what can follow.
 pub mod ListParts
 pub mod Overlaps
 pub mod Places

@@ -1,4 +1,4 @@
--- A fault of the reader is the error of each text in which it is.
+-- Lemmas: a fault of the reader is the error of each text in which the fault occurs.
 pub mod StuckTexts
 pub mod StringFaults
 pub mod Contexts

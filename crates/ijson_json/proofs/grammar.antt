@@ -1,4 +1,4 @@
--- Facts of the grammar about texts and trees, without a reader.
+-- Lemmas about the grammar of texts and trees, without the reader.
 pub mod FirstBytes
 pub mod CommaLists
 pub mod ElementShapes

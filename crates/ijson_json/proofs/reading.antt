@@ -1,4 +1,4 @@
--- The part of a text read so far, from an escape to a whole text.
+-- Lemmas about the part of a text that was read so far, from an escape to an array or object.
 pub mod Escapes
 pub mod StringContent
 pub mod Numbers

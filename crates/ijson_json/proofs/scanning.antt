@@ -1,4 +1,4 @@
--- Scanning a text: its leading bytes, runs, and the positions at which it may be split.
+-- Lemmas about scanning a text: leading bytes, runs and character boundaries.
 pub mod Prefixes
 pub mod Starts
 pub mod CommonFronts

@@ -1,3 +1,3 @@
--- The part of a string, an array or an object written so far.
+-- Lemmas about the part of a string, an array or an object that was written so far.
 pub mod Quoting
 pub mod Joined

@@ -1,15 +1,16 @@
--- The strings of a tree that a cache contains after reading it. As the Rust crate `ijson`, which interns each key and each string.
+-- The strings and keys of a tree that a cache contains after reading. Like the Rust crate `ijson`,
+-- the reader interns each key and each string.
 use Rattle.std.specs.Prelude.{◌≡◌, ℕ, ◌<◌, true, List, ⊤, length}
 use Rattle.std.specs.FinSet as set
 use Rattle.ijson_string.specs.Cache.{Texts}
 use Rattle.ijson_value.specs.Tree.{Tree, null, boolean, number, string, array, object, Items, no_items, item, Members, no_members, member}
 use Rattle.ijson_json.specs.Grammar.{Accepted}
 
--- the cache contains the string, if it is longer than 7 bytes
+-- Holds if the cache contains `s`, or if `s` has at most 7 bytes and is therefore inline.
 abbrev pub IsShared : Texts → List ℕ → Type 0
 IsShared cache s = 7 < length s → set.contains cache.texts s ≡ true
 
--- the cache contains each string and each key of the tree that is longer than 7 bytes
+-- Holds if the cache contains each string and each key of the tree that has more than 7 bytes.
 abbrev mutual
   pub AreShared : Texts → Tree → Type 0
   AreShared cache null = ⊤
@@ -28,6 +29,7 @@ abbrev mutual
   MembersAreShared cache (member k t more) =
       IsShared cache k × AreShared cache t × MembersAreShared cache more
 
--- the text is accepted, and the cache contains each long string and key of its tree
+-- Holds if `text` is accepted, and `cache` contains each string and key of its tree that has more
+-- than 7 bytes.
 abbrev pub SharesTextsOf : List ℕ → Texts → Type 0
 SharesTextsOf text cache = (tree : Tree) × Accepted text tree × AreShared cache tree

@@ -1,10 +1,10 @@
--- The error of `compact` for an error of the reader.
+-- The error of `compact` for each error of the reader.
 use Rattle.ijson_json.specs.declared.fault.JsonError.{JsonError}
 use Rattle.ijson_json.specs.declared.fault.JsonError.TheVariants as json
 use Rattle.ijson_json.specs.declared.compacting.CompactError.{CompactError}
 use Rattle.ijson_json.specs.declared.compacting.CompactError.TheVariants as errors
 
--- `Json` of it, but `Memory` for `Memory`
+-- Wraps the reader's error in `Json`, but converts `Memory` to `Memory`.
 abbrev pub compact_error_of : JsonError → CompactError
 compact_error_of (json.Syntax at) = errors.Json (json.Syntax at)
 compact_error_of (json.TooDeep at) = errors.Json (json.TooDeep at)

@@ -1,4 +1,4 @@
--- The error of a text that is rejected, and its offset, by the text alone.
+-- The error of a rejected text and the offset of the error, defined by the text alone.
 use Rattle.std.specs.Prelude.{◌≡◌, ◌≢◌, ◌⊎◌, ℕ, List, [], ◌∷◌, ◌++◌, length}
 use Rattle.ijson_number.specs.NumberFront.{IsUnread}
 use Rattle.ijson_number.specs.declared.number.ReadNumberError.TheVariants.{OutOfRange}
@@ -10,7 +10,9 @@ use Rattle.ijson_json.specs.Limits.{max_depth}
 use Rattle.ijson_json.specs.declared.fault.JsonError.{JsonError}
 use Rattle.ijson_json.specs.declared.fault.JsonError.TheVariants.{Syntax, TooDeep, NumberRange, Memory}
 
--- an opening bracket where a value may begin and the maximum number of containers is open, after bytes that begin a text within the limits
+-- Holds if the opening bracket at offset `at` exceeds the nesting limit. A value may begin after
+-- `before`, and the maximum number of containers is open there. Some JSON text within the limits
+-- begins with `before`.
 pub record TooDeepAt (text : List ℕ) (at : ℕ) : Type 0 where
   pub before : List ℕ
   pub bracket : ℕ
@@ -21,8 +23,9 @@ pub record TooDeepAt (text : List ℕ) (at : ℕ) : Type 0 where
   pub place : IsValuePlace max_depth before
   pub opens : (bracket ≡ 91) ⊎ (bracket ≡ 123)
 
--- a number out of range is at `at`: `before` begins a text within the limits, a value may follow `before`, and the longest prefix of
--- `rest` that begins a number spells a number beyond the limit
+-- Holds if a number out of range begins at offset `at`. A value may begin after `before`, and some
+-- JSON text within the limits begins with `before`. The longest prefix of `rest` that begins a
+-- number spells a number beyond the limit.
 pub record OutOfRangeAt (text : List ℕ) (at : ℕ) : Type 0 where
   pub before : List ℕ
   pub rest : List ℕ
@@ -33,7 +36,7 @@ pub record OutOfRangeAt (text : List ℕ) (at : ℕ) : Type 0 where
   pub place : IsValuePlace opened before
   pub past : IsUnread rest OutOfRange
 
--- a backslash in a string that begins no whole escape
+-- Holds if the backslash at offset `at` begins an invalid escape in a string.
 pub record BadEscapeAt (text : List ℕ) (at : ℕ) : Type 0 where
   pub before : List ℕ
   pub letters : List ℕ
@@ -42,7 +45,8 @@ pub record BadEscapeAt (text : List ℕ) (at : ℕ) : Type 0 where
   pub place : IsCharacterPlace before
   pub none : (written meant rest : List ℕ) → Character written meant → 92 ∷ letters ≢ written ++ rest
 
--- the text is not JSON: the bytes before the offset begin a JSON text, but not together with the next byte, if there is one
+-- Holds if `text` is not JSON, and `at` is the length of its longest prefix with which a JSON text
+-- begins.
 pub record StuckAt (text : List ℕ) (at : ℕ) : Type 0 where
   pub before : List ℕ
   pub rest : List ℕ
@@ -52,8 +56,10 @@ pub record StuckAt (text : List ℕ) (at : ℕ) : Type 0 where
   pub no_reading : HasNoReading text
   pub ends : (b : ℕ) (more : List ℕ) → rest ≡ b ∷ more → Begins (before ++ b ∷ []) → ⊥
 
--- The first error that occurs. A limit is exceeded before the text stops being JSON, so a text with a syntax error exceeds no limit. A
--- syntax error is at the backslash of a bad escape, otherwise at the first byte with which no JSON text goes on, or at the end of the text.
+-- Holds if the error is the first of `text`, from left to right. A syntax error is at the backslash
+-- of an invalid escape, otherwise at the first byte that no JSON text has there, or at the end of
+-- `text`. A text with a syntax error does not exceed a limit. `TooDeep` and `NumberRange` are at
+-- the offset where the limit is exceeded. `Memory` is never the error of a text.
 abbrev pub IsErrorOf : List ℕ → JsonError → Type 0
 IsErrorOf text (Syntax at) =
     ((m : ℕ) → TooDeepAt text m → ⊥) × ((m : ℕ) → OutOfRangeAt text m → ⊥)

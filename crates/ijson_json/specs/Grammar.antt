@@ -1,4 +1,5 @@
--- JSON (RFC 8259, sections 2 to 7) as a relation between whole texts and trees. A text is the list of its bytes.
+-- JSON (RFC 8259, sections 2 to 7) as a relation between texts and trees. A text is a list of
+-- bytes.
 use Rattle.std.specs.Prelude.{◌≡◌, ℕ, ◌≤◌, Bool, true, false, ◌||◌, ◌==◌, IsTrue, ◌⊎◌, List, [], ◌∷◌, ◌++◌}
 use Rattle.std.specs.List.{AllByRecursion}
 use Rattle.ijson_number.specs.Grammar.{Spells}
@@ -9,28 +10,28 @@ use Rattle.ijson_json.specs.Ranged.{is_ranged}
 use Rattle.ijson_json.specs.Settled.{settled}
 use Rattle.ijson_json.specs.Limits.{max_depth}
 
--- space, tab, line feed, carriage return (section 2)
+-- Whether a byte is white space: space, tab, line feed or carriage return (section 2).
 abbrev pub is_space : ℕ → Bool
 is_space b = (b == 32) || ((b == 9) || ((b == 10) || (b == 13)))
 
 abbrev pub IsSpace : List ℕ → Type 0
 IsSpace text = AllByRecursion (λ b. IsTrue (is_space b)) text
 
--- a text that is P, with white space around it
+-- Holds if `text` is a text with the property `P`, surrounded by optional white space.
 abbrev pub Spaced : (List ℕ → Type 0) → List ℕ → Type 0
 Spaced P text =
     (before inside after : List ℕ) × IsSpace before × P inside × IsSpace after
     × (text ≡ before ++ (inside ++ after))
 
--- a text that is P, the byte, and a text that is Q
+-- Holds if `text` is a text with the property `P`, then `byte`, then a text with the property `Q`.
 abbrev pub Split : (List ℕ → Type 0) → ℕ → (List ℕ → Type 0) → List ℕ → Type 0
 Split P byte Q text = (first second : List ℕ) × P first × Q second × (text ≡ first ++ byte ∷ second)
 
--- a text that is P between two bytes
+-- Holds if `text` is a text with the property `P` between the bytes `first` and `last`.
 abbrev pub Enclosed : ℕ → (List ℕ → Type 0) → ℕ → List ℕ → Type 0
 Enclosed first P last text = (inside : List ℕ) × P inside × (text ≡ first ∷ (inside ++ last ∷ []))
 
--- `null`, `true` and `false` (section 3)
+-- The literals `null`, `true` and `false` (section 3).
 abbrev pub null_text : List ℕ
 null_text = 110 ∷ 117 ∷ 108 ∷ 108 ∷ []
 
@@ -38,12 +39,13 @@ abbrev pub boolean_text : Bool → List ℕ
 boolean_text true = 116 ∷ 114 ∷ 117 ∷ 101 ∷ []
 boolean_text false = 102 ∷ 97 ∷ 108 ∷ 115 ∷ 101 ∷ []
 
--- a string with its quotes (section 7)
+-- Holds if `text` is a JSON string, with its quotes, and `s` is its content (section 7).
 abbrev pub IsString : List ℕ → List ℕ → Type 0
 IsString s text = Enclosed 34 (λ body. StringBody body s) 34 text
 
--- The value without white space around it (sections 3 to 6). An object is as it was written, possibly with duplicate keys. `[` is 91, `]`
--- 93, `{` 123, `}` 125, `,` 44 and `:` 58.
+-- Holds if `text` spells the tree, without white space around it (sections 3 to 6). An object keeps
+-- its members as written, including duplicate keys. `[` is 91, `]` 93, `{` 123, `}` 125, `,` 44 and
+-- `:` 58.
 abbrev mutual
   pub IsValue : Tree → List ℕ → Type 0
   IsValue null text = text ≡ null_text
@@ -70,8 +72,9 @@ abbrev mutual
       (λ value. Spaced (λ value. IsValue t value) value) first) 44
       (λ others. IsMembers (member l u more) others) text
 
--- The text is JSON for the tree, with at most `deepest` open containers; `ranged` is whether each number in it is within the limit. Members
--- that are replaced later were written too, and count for both.
+-- Holds if `text` is JSON that reads as `tree`. `deepest` is the maximum number of open containers,
+-- and `ranged` is whether each number is within the limit. Both include members that a duplicate
+-- key replaces.
 pub record Reads (text : List ℕ) (tree : Tree) (deepest : ℕ) (ranged : Bool) : Type 0 where
   pub written : Tree
   pub spelled : Spaced (λ value. IsValue written value) text
@@ -79,10 +82,11 @@ pub record Reads (text : List ℕ) (tree : Tree) (deepest : ℕ) (ranged : Bool)
   pub deepest_is : deepest ≡ depth written
   pub ranged_is : ranged ≡ is_ranged written
 
--- JSON text for the tree, within this project's limits on nesting and exponents
+-- Holds if the text is JSON for the tree, within this project's own limits on nesting and
+-- exponents.
 abbrev pub Accepted : List ℕ → Tree → Type 0
 Accepted text tree = (deepest : ℕ) × (deepest ≤ max_depth) × Reads text tree deepest true
 
--- only closing brackets
+-- Holds if the text consists of closing brackets only.
 abbrev pub IsClosers : List ℕ → Type 0
 IsClosers text = AllByRecursion (λ b. (b ≡ 93) ⊎ (b ≡ 125)) text

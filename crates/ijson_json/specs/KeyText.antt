@@ -1,4 +1,5 @@
--- The text before the value of a member (RFC 8259, section 4): a comma, except before the first member, the key and a colon.
+-- The text before the value of a member (RFC 8259, section 4): a comma, except before the first
+-- member, then the key and a colon.
 use Rattle.std.specs.Prelude.{ℕ, Bool, List, [], ◌∷◌, ◌++◌}
 use Rattle.ijson_json.specs.Print.{quoted}
 use Rattle.ijson_json.specs.Separator.{separator}

@@ -1,6 +1,7 @@
--- The limit on nesting. RFC 8259, section 9, leaves it open; this one is this project's own.
+-- The nesting limit. RFC 8259, section 9, lets each parser set a limit; the value is this project's
+-- own.
 use Rattle.std.specs.Prelude.{ℕ}
 
--- the maximum number of open containers
+-- The maximum number of open containers.
 abbrev pub max_depth : ℕ
 max_depth = 127

@@ -1,4 +1,4 @@
--- An error with the line and column of its offset, and its message.
+-- Errors with the line and column of their offset, and their messages.
 use Rattle.std.specs.Prelude.{ℕ, List, ◌++◌, codes, take, ⊤}
 use Rattle.std.specs.Fmt.{decimal}
 use Rattle.ijson_json.specs.LineColumn.{Follows}
@@ -7,7 +7,8 @@ use Rattle.ijson_json.specs.declared.fault.JsonError.TheVariants as why
 use Rattle.ijson_json.specs.declared.located.LocatedError.{LocatedError}
 use Rattle.ijson_json.specs.declared.located.LocatedError.TheVariants.{Syntax, TooDeep, NumberRange, Memory}
 
--- the same reason, at the line and column of its offset
+-- Holds if both errors have the same reason, and the line and column are the position of the offset
+-- in `text`.
 abbrev pub Locates : List ℕ → JsonError → LocatedError → Type 0
 Locates text (why.Syntax at) (Syntax place) = Follows (take at text) place.line place.column
 Locates text (why.TooDeep at) (TooDeep place) = Follows (take at text) place.line place.column

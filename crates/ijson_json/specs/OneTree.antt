@@ -1,9 +1,9 @@
--- A law of the grammar, over the definitions alone.
+-- A law of the grammar. The law does not mention the reader.
 use Rattle.std.specs.Prelude.{◌≡◌, ℕ, Bool, List}
 use Rattle.ijson_value.specs.Tree.{Tree}
 use Rattle.ijson_json.specs.Grammar.{Reads}
 
--- a text has at most one tree
+-- A text has at most one tree.
 abbrev pub OneTree : Type 0
 OneTree =
     (text : List ℕ) (t u : Tree) (d e : ℕ) (r s : Bool) → Reads text t d r → Reads text u e s → t ≡ u

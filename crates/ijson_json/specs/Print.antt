@@ -1,16 +1,17 @@
--- The text of a tree, without white space: this project's own choice among the texts that RFC 8259
--- allows.
+-- The JSON text of a tree, without white space. RFC 8259 allows several texts; this choice is the
+-- project's own.
 use Rattle.std.specs.Prelude.{ℕ, ◌+◌, ◌/◌, ◌%◌, cond, ◌==◌, nat_lt, List, [], ◌∷◌, ◌++◌}
 use Rattle.ijson_number.specs.Decimal.{Decimal}
 use Rattle.ijson_number.specs.Text.{num_text}
 use Rattle.ijson_value.specs.Tree.{Tree, null, boolean, number, string, array, object, Items, no_items, item, Members, no_members, member}
 use Rattle.ijson_json.specs.Grammar.{null_text, boolean_text}
 
--- a digit below sixteen, in lower case
+-- The lower-case hexadecimal digit of `n`, which is below 16.
 abbrev pub hex_text : ℕ → ℕ
 hex_text n = cond (nat_lt n 10) (48 + n) (87 + n)
 
--- a byte in a string: `"`, a backslash and the bytes below 32 are escaped, by a letter if they have one
+-- The bytes that spell the byte `b` in a string. `"`, a backslash and bytes below 32 are escaped:
+-- with a letter if RFC 8259 has a letter for the byte, otherwise like `\u001f`.
 unfoldable pub escaped : ℕ → List ℕ
 escaped b =
     cond (b == 34) (92 ∷ 34 ∷ [])
@@ -27,11 +28,11 @@ abbrev pub all_escaped : List ℕ → List ℕ
 all_escaped [] = []
 all_escaped (b ∷ bs) = escaped b ++ all_escaped bs
 
--- a text in quotes
+-- The string `s` in quotes, with its escapes.
 abbrev pub quoted : List ℕ → List ℕ
 quoted s = 34 ∷ (all_escaped s ++ 34 ∷ [])
 
--- the text of a tree, in which `num` gives those of the numbers
+-- The JSON text of a tree, in which `num` writes the numbers.
 abbrev mutual
   pub text_by : (Decimal → List ℕ) → Tree → List ℕ
   text_by num null = null_text
@@ -52,7 +53,7 @@ abbrev mutual
   members_by num (member k t (member l u more)) =
       (quoted k ++ 58 ∷ text_by num t) ++ 44 ∷ members_by num (member l u more)
 
--- each number as its digits with their shape
+-- The JSON text of a tree, in which `num_text` writes the numbers.
 abbrev pub print : Tree → List ℕ
 print t = text_by num_text t
 

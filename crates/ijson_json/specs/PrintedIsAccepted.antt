@@ -1,4 +1,4 @@
--- A law of the grammar and the printer, over the definitions alone.
+-- A law of the grammar and the printer. The law does not mention the reader.
 use Rattle.std.specs.Prelude.{◌≤◌}
 use Rattle.ijson_value.specs.Tree.{Tree, depth}
 use Rattle.ijson_value.specs.WellFormed.{IsWellFormed}
@@ -6,6 +6,7 @@ use Rattle.ijson_json.specs.Grammar.{Accepted}
 use Rattle.ijson_json.specs.Limits.{max_depth}
 use Rattle.ijson_json.specs.Print.{print}
 
--- the printed text is accepted, as the tree that was printed
+-- If a well-formed tree is within the nesting limit, its printed text is accepted and reads as the
+-- same tree.
 abbrev pub PrintedIsAccepted : Type 0
 PrintedIsAccepted = (t : Tree) → IsWellFormed t → depth t ≤ max_depth → Accepted (print t) t

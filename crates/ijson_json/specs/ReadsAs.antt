@@ -1,4 +1,4 @@
--- The result of a function of a text: it is about the tree of the text, or states why the text has none.
+-- The result of a function that reads a text: a value for the tree of the text, or an error.
 use Rattle.std.specs.Prelude.{◌≡◌, ℕ, List, Result, Ok, Err, MatchResult, IfErr}
 use Rattle.ijson_value.specs.Tree.{Tree}
 use Rattle.ijson_json.specs.Grammar.{Accepted}
@@ -6,12 +6,14 @@ use Rattle.ijson_json.specs.Refuses.{Refuses}
 use Rattle.ijson_json.specs.declared.fault.JsonError.{JsonError}
 use Rattle.ijson_json.specs.declared.fault.JsonError.TheVariants.{Memory}
 
--- a value that `Gives` relates to the tree of the text, or an error that the text allows
+-- Holds for `Ok x` if `text` is accepted and `Gives` relates its tree to `x`. Holds for `Err e` if
+-- `Refuses text e` holds.
 abbrev pub ReadsAs : {X : Type 0} → List ℕ → (Tree → X → Type 0) → Result X JsonError → Type 0
 ReadsAs text Gives (Ok x) = (tree : Tree) × Accepted text tree × Gives tree x
 ReadsAs text Gives (Err e) = Refuses text e
 
--- if the text is accepted as a tree, a value that `Gives` relates to it, or out of memory; any error is one that the text allows
+-- Holds if an accepted `text` has a result that `Gives` relates to its tree, or the error `Memory`.
+-- Any error satisfies `Refuses`.
 pub record IsTotal {X : Type 0} (text : List ℕ) (Gives : Tree → X → Type 0) (result : Result X JsonError) : Type 0 where
   pub read : (tree : Tree) → Accepted text tree → MatchResult result (Gives tree) (λ e. e ≡ Memory)
   pub refused : IfErr result (λ e. Refuses text e)

@@ -1,4 +1,5 @@
--- The text before an element of an array or a member of an object (RFC 8259, sections 4 and 5): a comma, except before the first.
+-- The text before an element or a member (RFC 8259, sections 4 and 5): a comma, except before the
+-- first element or member.
 use Rattle.std.specs.Prelude.{ℕ, Bool, true, false, List, [], ◌∷◌}
 
 abbrev pub separator : Bool → List ℕ

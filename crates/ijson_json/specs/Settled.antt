@@ -1,11 +1,12 @@
--- The tree of a text as written, possibly with duplicate keys. RFC 8259, section 4, leaves duplicate names open; this project keeps the
--- index of the first and the value of the last.
+-- Trees without duplicate keys. RFC 8259, section 4, does not define the meaning of duplicate keys;
+-- this project keeps the index of the first and the value of the last.
 use Rattle.std.specs.Prelude.{ℕ, List, [], ◌∷◌}
 use Rattle.ijson_table.specs.Store.{put_each}
 use Rattle.ijson_value.specs.Tree.{Tree, null, boolean, number, string, array, object, Items, no_items, item, Members, no_members}
 use Rattle.ijson_value.specs.Tree.{member, members_of}
 
--- the members of each object are put, in order, into the empty list
+-- The tree with duplicate keys resolved: the members of each object are inserted in order into an
+-- empty object.
 abbrev mutual
   pub settled : Tree → Tree
   settled null = null

@@ -1,7 +1,8 @@
--- A sink in memory.
+-- The model of a sink in memory.
 use Rattle.std.specs.Prelude.{ℕ, List}
 
--- the bytes received, the maximum number of bytes per call, the number of bytes before each call fails, and the number of failed calls
+-- `got` is the bytes received, `piece` the maximum number of bytes per call, `until_fault` the
+-- number of bytes until every call fails, and `failed` the number of failed calls.
 pub record SinkState : Type 0 where
   pub got : List ℕ
   pub piece : ℕ

@@ -1,7 +1,8 @@
--- A source in memory.
+-- The model of a source in memory.
 use Rattle.std.specs.Prelude.{ℕ, List}
 
--- the remaining bytes, the maximum number of bytes per call, the number of bytes before each call fails, and the number of failed calls
+-- `left` is the remaining bytes, `piece` the maximum number of bytes per call, `until_fault` the
+-- number of bytes until every call fails, and `failed` the number of failed calls.
 pub record SourceState : Type 0 where
   pub left : List ℕ
   pub piece : ℕ

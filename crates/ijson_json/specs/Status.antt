@@ -1,4 +1,5 @@
--- The exit status of the program: 0 for success, 1 for a rejected input, 2 for a device, 3 for a failed allocation.
+-- The exit status of the program: 0 for success, 1 for rejected input, 2 for a failed read or
+-- write, 3 for a failed allocation.
 use Rattle.std.specs.Prelude.{ℕ, Result, Ok, Err}
 use Rattle.ijson_json.specs.declared.fault.JsonError.TheVariants as json
 use Rattle.ijson_json.specs.declared.compacting.CompactError.{CompactError}

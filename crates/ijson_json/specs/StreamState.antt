@@ -1,7 +1,7 @@
--- A device over a reader or a writer.
+-- The model of a device that wraps a reader or a writer.
 use Rattle.std.specs.Prelude.{ℕ}
 
--- the reader or writer, and the number of failed calls
+-- The reader or writer is `inner`, and the number of failed calls is `failed`.
 pub record StreamState (D : Type 0) : Type 0 where
   pub inner : D
   pub failed : ℕ

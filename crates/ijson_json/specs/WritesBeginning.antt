@@ -1,8 +1,8 @@
--- The part of a text that was written before a failure, to a sink or at the end of another text.
+-- The part of a text that was written before a failure.
 use Rattle.std.specs.Prelude.{◌≡◌, ◌≢◌, ℕ, List, [], ◌++◌, Option}
 use Rattle.std.specs.Io.KnownBytes.{Appends}
 
--- a proper prefix of the text was appended to the bytes before, if these are known
+-- Holds if a proper prefix of `text` was appended to the bytes `before`, if these are known.
 pub record WritesBeginning (before after : Option (List ℕ)) (text : List ℕ) : Type 0 where
   pub front : List ℕ
   pub rest : List ℕ

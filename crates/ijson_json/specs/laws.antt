@@ -1,2 +1,2 @@
--- Proofs that only the models cite.
+-- Definitions that only the models of types use.
 pub mod StreamStateCode

@@ -1,4 +1,4 @@
--- Definitions that only the clauses of private functions cite.
+-- Definitions that only the contracts of private functions use.
 pub mod CompactErrorOfReadFault
 pub mod Delimiters
 pub mod Reading

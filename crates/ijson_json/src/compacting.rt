@@ -1,4 +1,4 @@
-//! `compact`: reads a source and writes to a sink.
+//! Compacting: reads JSON from a source and writes it without white space to a sink.
 ghost use Rattle.std.specs.Prelude.{◌≡◌, ◌≢◌, ◌+◌, ◌^◌, ◌<◌, ◌↔◌, ◌⊎◌, [], IfOk, IfErr, OnOk, IfSome, Err, IsUtf8};
 ghost use Rattle.std.specs.Prelude.{◌++◌, ◌∷◌};
 ghost use Rattle.std.specs.Io.KnownBytes.{Appends, Consumes, IsAtEnd, Keeps};
@@ -26,7 +26,7 @@ use std::alloc::{AllocError, Global};
 use std::hash::BuildHasher;
 use thiserror::Error;
 
-/// Why an input could not be compacted.
+/// Why `compact` failed.
 #[derive(Debug, Drop, Clone, Copy, PartialEq, Eq, Error)]
 pub enum CompactError {
     /// The source failed. Nothing was written.
@@ -37,10 +37,10 @@ pub enum CompactError {
     NotUtf8,
     /// The input is not JSON within the limits. Nothing was written.
     ///
-    /// It never contains `JsonError::Memory`.
+    /// The contained error is never `JsonError::Memory`.
     #[error("{0}")]
     Json(JsonError),
-    /// The sink failed. It received the beginning of the line, but not all of it.
+    /// The sink failed. The line was written in part or not at all.
     #[error("write failed")]
     Write,
     /// An allocation failed. Nothing was written.
@@ -59,7 +59,7 @@ impl From<ReadFault> for CompactError {
     }
 }
 
-/// Converts `JsonError::Memory` to `Memory`, and each other error to `Json`.
+/// Converts `JsonError::Memory` to `Memory`, and any other error to `Json`.
 impl From<JsonError> for CompactError {
     ghost from_gives = { λ error becomes. becomes ≡ compact_error_of error };
 
@@ -71,7 +71,7 @@ impl From<JsonError> for CompactError {
     }
 }
 
-/// Converts to `Memory`.
+/// Converts an allocation failure to `Memory`.
 impl From<AllocError> for CompactError {
     ghost from_gives = { λ _ error. error ≡ NoMemory };
 
@@ -80,20 +80,24 @@ impl From<AllocError> for CompactError {
     }
 }
 
-/// Reads the rest of `input` as JSON, and writes it without white space and one line feed to `output`.
+/// Reads the rest of `input` as JSON and writes it without white space, then a line feed, to
+/// `output`.
 ///
-/// Keys and strings are interned in `cache`, as by `from_json`. The failures of both devices must be below 2^64 - 1.
+/// Keys and strings are interned in `cache`, as by `from_json`. `failures` of each device must be
+/// below 2^64 - 1.
 ///
 /// # Errors
 ///
-/// See `CompactError` for when each error occurs. The whole line is built before its first byte is written. After an error other than
-/// `Read` and `NotUtf8`, strings of the input may be in the cache.
+/// `CompactError` lists when each error occurs. The whole line is built before its first byte is
+/// written. After an error other than `Read` and `NotUtf8`, strings of the input may be in the
+/// cache.
 ///
 /// # Cost
 ///
-/// The input and its value are in memory together, then the value and the line, which reuses the memory of the input and grows if needed.
-/// The time is that of `from_json`, `to_json` and the device calls: each read gets a buffer of at least one byte, and each write the rest
-/// of the line.
+/// The input and its value are in memory together, and later the value and the line. The line
+/// reuses the memory of the input and grows if needed. The time is the sum of `from_json`,
+/// `to_json` and the device calls. Each read receives a buffer of at least one byte, and each write
+/// receives the rest of the line.
 pub fn compact<R: Source, W: Sink, S: BuildHasher>(
     alloc: Global,
     input: &mut R,
@@ -104,10 +108,11 @@ pub fn compact<R: Source, W: Sink, S: BuildHasher>(
     requires sink { W.failed output.old + 1 < 2 ^ 64 }
     ensures read { (result ≡ Err Read) ↔ (R.failed input.old < R.failed input.new) }
     ensures write { (result ≡ Err Write) ↔ (W.failed output.old < W.failed output.new) }
-    // The whole line is written, from the whole rest of the source.
+    // On success, the source is at its end and the sink received the whole line.
     ensures done { OnOk result
         (WritesLine (R.left input.old) (R.left input.new) (W.got output.old) (W.got output.new)) }
-    // A failed write leaves the beginning of the line; any other error leaves the sink unchanged.
+    // If a write fails, the sink received a beginning of the line. After any other error, the sink
+    // is unchanged.
     ensures beginning { result ≡ Err Write
         → BeginsLine (R.left input.old) (W.got output.old) (W.got output.new) }
     ensures nothing { IfErr result (λ error.
@@ -115,9 +120,9 @@ pub fn compact<R: Source, W: Sink, S: BuildHasher>(
     ensures error { IfErr result (λ error.
         IfSome (R.left input.old) (λ bytes. IsCompactRefusal bytes error)) }
     ensures never_memory { result ≢ Err (Json Memory) }
-    // The cache only gains strings that the input spells.
+    // The cache gains only strings that the input spells.
     ensures cache { AddsOnlyLeft (R.left input.old) cache.old cache.new }
-    // The cache is unchanged if no input was parsed.
+    // The cache is unchanged if the input was not parsed.
     ensures unread { (result ≡ Err Read) ⊎ (result ≡ Err NotUtf8) → cache.new ≡ cache.old }
     // On success, the cache contains each string and key of the input that has more than 7 bytes.
     ensures shared { OnOk result (IfSome (R.left input.old)
@@ -128,9 +133,13 @@ pub fn compact<R: Source, W: Sink, S: BuildHasher>(
     Ok(())
 }
 
-/// Like `compact`, but returns the value that was read, which an error drops.
+/// Like `compact`, but returns the value that was read.
 ///
-/// The clauses are those of `compact`, and `value`.
+/// The contract adds the clause `value` to the contract of `compact`.
+///
+/// # Errors
+///
+/// Fails like `compact`. The value is then dropped.
 pub fn compact_value<R: Source, W: Sink, S: BuildHasher>(
     alloc: Global,
     input: &mut R,
@@ -154,7 +163,7 @@ pub fn compact_value<R: Source, W: Sink, S: BuildHasher>(
     ensures unread { (result ≡ Err Read) ⊎ (result ≡ Err NotUtf8) → cache.new ≡ cache.old }
     ensures shared { OnOk result (IfSome (R.left input.old)
         (λ bytes. SharesTextsOf bytes cache.new)) }
-    // The value is the tree that the input spells.
+    // The returned value is the tree that the input spells.
     ensures value { IfOk result (λ value.
         IfSome (R.left input.old) (λ bytes. Accepted bytes value.tree)) }
 {
@@ -163,7 +172,7 @@ pub fn compact_value<R: Source, W: Sink, S: BuildHasher>(
     write_line(output, text, value)
 }
 
-/// Reads the rest of `input`, which must be UTF-8.
+/// Reads the rest of `input` as a string. Returns `NotUtf8` if the bytes are not UTF-8.
 fn remaining_text<R: Source>(alloc: Global, input: &mut R) -> Result<String, CompactError>
     requires { R.failed input.old + 1 < 2 ^ 64 }
     ensures text { IfOk result (λ text. IsUtf8 (string_bytes text)
@@ -179,7 +188,9 @@ fn remaining_text<R: Source>(alloc: Global, input: &mut R) -> Result<String, Com
     Ok(unsafe { String::from_utf8_unchecked(bytes) })
 }
 
-/// Writes the JSON text of `value` and a line feed, reusing the memory of `room`, and returns `value`.
+/// Writes the JSON text of `value` and a line feed, and returns `value`.
+///
+/// The line is built in the memory of `room`.
 fn write_line<W: Sink>(output: &mut W, room: String, value: IValue) -> Result<IValue, CompactError>
     requires { W.failed output.old + 1 < 2 ^ 64 }
     ensures line { IfOk result (λ written. (written ≡ value)
@@ -202,7 +213,7 @@ fn write_line<W: Sink>(output: &mut W, room: String, value: IValue) -> Result<IV
     }
 }
 
-/// Returns the JSON text of `value` and a line feed, reusing the memory of `room`.
+/// Returns the JSON text of `value` and a line feed, in the memory of `room`.
 fn line_of(room: String, value: &IValue) -> Result<String, AllocError>
     ensures { IfOk result (λ line. string_bytes line ≡ print value.now.tree ++ 10 ∷ []) }
 {

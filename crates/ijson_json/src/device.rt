@@ -1,7 +1,8 @@
-//! The traits of devices to read from and write to, and their error.
+//! Devices: the traits of a source to read from and of a sink to write to.
 //!
-//! `stream_source` and `stream_sink` wrap the readers and writers of the standard library, `memory_source` and `memory_sink` are in memory.
-//! `transfer` reads a source to its end and writes whole texts.
+//! - `stream_source`, `stream_sink`: wrap a reader or writer of the standard library.
+//! - `memory_source`, `memory_sink`: devices in memory.
+//! - `transfer`: reads a source to its end, and writes a whole text.
 ghost use Rattle.std.specs.Prelude.{◌≡◌, ◌+◌, ◌^◌, ◌<◌, ◌≤◌, ℕ, List, Option, length, IfOk, OnOk, OnErr};
 ghost use Rattle.std.specs.Io.KnownBytes.{ReadConsumes, WriteAppends};
 
@@ -17,30 +18,31 @@ pub use stream_sink::StreamSink;
 pub use stream_source::StreamSource;
 use thiserror::Error;
 
-/// The error of a failed read or write, which moved no byte.
+/// The error of a failed read or write. A failed call does not move any byte.
 #[derive(Debug, Clone, Copy, PartialEq, Eq, Error)]
 #[error("a read or a write failed")]
 pub struct DeviceFault;
 
 /// A source of bytes that counts its failed reads, such as `MemorySource` and `StreamSource`.
 pub trait Source {
-    /// The number of reads that failed so far.
+    /// The number of failed reads.
     ghost failed: { Self → ℕ };
 
-    /// The remaining bytes, if they are known, like `Read.remaining` of the standard library.
+    /// The remaining bytes, if known. Corresponds to `Read.remaining` of the standard library.
     ghost left: { Self → Option (List ℕ) };
 
-    /// Returns the number of reads that failed so far.
+    /// Returns the number of failed reads.
     fn failures(&self) -> u64
         ensures { result ≡ failed self.now };
 
     /// Reads the next bytes into the beginning of `into`, and returns their number.
     ///
-    /// If `into` is not empty, 0 is returned only at the end. `failures` must be below 2^64 - 1.
+    /// Returns 0 for a non-empty `into` only at the end of the source. `failures` must be below
+    /// 2^64 - 1.
     ///
     /// # Errors
     ///
-    /// On a fault, no byte moves, and `failures` increases by one.
+    /// If the read fails, no byte is moved, and `failures` increases by 1.
     fn read(&mut self, into: &mut [u8]) -> Result<usize, DeviceFault>
         requires { failed self.old + 1 < 2 ^ 64 }
         ensures bound { IfOk result (λ n. n ≤ length into.new) }
@@ -51,23 +53,24 @@ pub trait Source {
 
 /// A sink for bytes that counts its failed writes, such as `MemorySink` and `StreamSink`.
 pub trait Sink {
-    /// The number of writes that failed so far.
+    /// The number of failed writes.
     ghost failed: { Self → ℕ };
 
-    /// The bytes received so far, if they are known, like `Write.contents` of the standard library.
+    /// The bytes received, if known. Corresponds to `Write.contents` of the standard library.
     ghost got: { Self → Option (List ℕ) };
 
-    /// Returns the number of writes that failed so far.
+    /// Returns the number of failed writes.
     fn failures(&self) -> u64
         ensures { result ≡ failed self.now };
 
-    /// Writes the first bytes of `from`, at least one unless it is empty, and returns their number.
+    /// Writes the first bytes of `from`, at least one unless `from` is empty, and returns their
+    /// number.
     ///
     /// `failures` must be below 2^64 - 1.
     ///
     /// # Errors
     ///
-    /// On a fault, no byte moves, and `failures` increases by one.
+    /// If the write fails, no byte is moved, and `failures` increases by 1.
     fn write(&mut self, from: &[u8]) -> Result<usize, DeviceFault>
         requires { failed self.old + 1 < 2 ^ 64 }
         ensures bound { IfOk result (λ n. n ≤ length from.now) }

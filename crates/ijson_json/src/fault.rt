@@ -8,20 +8,25 @@ use thiserror::Error;
 
 /// Why an input was rejected.
 ///
-/// `at` is a byte offset from 0, at most the length of the input. `[1 2]` is `Syntax` at 3, `[1,` at 3 too, `01` at 1, and `1e2000000000`
-/// is `NumberRange` at 0.
+/// `at` is a byte offset from 0, at most the length of the input. Examples:
+///
+/// - `[1 2]`: `Syntax` at 3
+/// - `[1,`: `Syntax` at 3
+/// - `01`: `Syntax` at 1
+/// - `1e2000000000`: `NumberRange` at 0
 #[derive(Clone, Copy, PartialEq, Eq, Debug, Error)]
 pub enum JsonError {
     /// The input is not JSON.
     ///
-    /// `at` is the first byte that no JSON text could have there, or the length of an input that ends too early. For an invalid escape it
-    /// is the backslash.
+    /// `at` is the first byte that no JSON text can have there. If the input ends too early, `at`
+    /// is its length. If an escape is invalid, `at` is its backslash.
     #[error("syntax at byte {at}")]
     Syntax { at: usize },
-    /// Nesting deeper than 127, at the opening bracket.
+    /// Nesting deeper than 127. `at` is the opening bracket that exceeds the limit.
     #[error("nesting too deep at byte {at}")]
     TooDeep { at: usize },
-    /// A nonzero number with a canonical exponent below -2^30 or above 2^30, at its first byte.
+    /// A nonzero number with a canonical exponent below -2^30 or above 2^30. `at` is its first
+    /// byte.
     #[error("number out of range at byte {at}")]
     NumberRange { at: usize },
     /// An allocation failed.
@@ -29,7 +34,7 @@ pub enum JsonError {
     Memory,
 }
 
-/// Converts to `Memory`.
+/// Converts an allocation failure to `Memory`.
 impl From<AllocError> for JsonError {
     ghost use Rattle.ijson_json.specs.declared.fault.JsonError.TheVariants.{Memory as NoMemory};
 
@@ -40,7 +45,7 @@ impl From<AllocError> for JsonError {
     }
 }
 
-/// Why nothing was read at the start of a text, and how many bytes were left there.
+/// Why nothing was read at the start of a text. `left` is the number of bytes left at the fault.
 #[derive(Clone, Copy)]
 pub(crate) enum Fault {
     Syntax { left: usize },
@@ -49,7 +54,7 @@ pub(crate) enum Fault {
     Memory,
 }
 
-/// Converts to `Memory` and drops the value.
+/// Converts an allocation failure to `Memory`, and drops the value that was not stored.
 impl<T: Drop> From<AllocFailed<T>> for Fault {
     ghost from_gives = { λ _ fault. fault ≡ Memory };
 

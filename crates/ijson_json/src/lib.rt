@@ -24,10 +24,15 @@ pub use read::from_json;
 pub use reporting::report;
 pub use write::{INITIAL_CAPACITY, push_key, push_quoted, push_separator, to_json};
 
-/// States that a text has at most one tree, and that a printed tree is read back.
+/// States laws of the JSON grammar as postconditions.
 ///
-/// The second holds for well-formed trees within the limits. A text has at most one error, and none if it is accepted: `from_json`
-/// returns it. The function does nothing; calling it gives a proof these laws.
+/// - `one_tree`: a text has at most one tree.
+/// - `printed`: the text of a well-formed tree within the nesting limit is accepted as that tree.
+/// - `no_error`: an accepted text has no error.
+/// - `one_error`: a text has at most one error, which `from_json` returns.
+/// - `allowed`: the error of a text satisfies `Refuses`.
+///
+/// The function does nothing. A proof calls it to use the laws.
 pub fn grammar_law()
     ensures one_tree { OneTree }
     ensures printed { PrintedIsAccepted }

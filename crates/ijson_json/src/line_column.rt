@@ -1,20 +1,20 @@
-//! The line and column of a byte in a text, as editors count.
+//! The line and column of a byte in a text, as editors count them.
 ghost use Rattle.std.specs.Prelude.{◌≡◌, Some, take};
 ghost use Rattle.ijson_json.specs.Located.{place_text};
 ghost use Rattle.ijson_json.specs.LineColumn.{Follows, begins};
 
 use std::fmt;
 
-/// A line of a text and a column in it, both from 1. A column counts characters, not bytes.
+/// A line and a column in a text, both counted from 1. A column counts characters, not bytes.
 #[derive(Clone, Copy, Debug, PartialEq, Eq)]
 pub struct LineColumn {
-    /// One more than the number of line feeds before.
+    /// 1 plus the number of line feeds before the position.
     pub line: usize,
-    /// One more than the number of characters before, in the same line.
+    /// 1 plus the number of characters before the position in the same line.
     pub column: usize,
 }
 
-/// As `line 2, column 7`.
+/// Displays as `line 2, column 7`.
 impl fmt::Display for LineColumn {
     ghost output = { λ place. Some (place_text place.line place.column) };
 
@@ -23,10 +23,14 @@ impl fmt::Display for LineColumn {
     }
 }
 
-/// Returns the line and column, from 1, of the byte at offset `at`, from 0.
+/// Returns the line and column of the byte at offset `at`.
 ///
-/// Use it for error messages (`JsonError`). If `at` is past the end of the text, it is the position of the end. It takes time linear in the
-/// text before `at` and does not allocate.
+/// The line and column are counted from 1, the offset from 0. If `at` is past the end of `text`,
+/// returns the position of the end. Use the function to report the offset of a `JsonError`.
+///
+/// # Cost
+///
+/// Linear in the text before `at`. Does not allocate.
 pub fn line_and_column(text: &str, at: usize) -> LineColumn
     ensures { Follows (take at text.now) result.line result.column }
 {
@@ -52,7 +56,7 @@ pub fn line_and_column(text: &str, at: usize) -> LineColumn
     }
 }
 
-/// Returns `true` if a byte of a UTF-8 text begins a character, so is no continuation byte.
+/// Returns `true` if `byte` begins a character in UTF-8, so it is not a continuation byte.
 fn begins_character(byte: u8) -> bool
     ensures { result ≡ begins byte }
 {

@@ -1,4 +1,4 @@
-//! The error of a text with its line and column, for messages.
+//! The error of a rejected text with its line and column, for messages.
 ghost use Rattle.std.specs.Prelude.{◌≡◌, Some};
 ghost use Rattle.ijson_json.specs.Located.{Locates, message};
 
@@ -7,22 +7,22 @@ use crate::line_column::{LineColumn, line_and_column};
 use std::error::Error;
 use std::fmt;
 
-/// Why a text was rejected, with the line and column of the offset.
+/// Why a text was rejected, and the line and column of the fault.
 ///
-/// It displays as `syntax at line 2, column 7`.
+/// Displays as `syntax at line 2, column 7`.
 #[derive(Clone, Copy, PartialEq, Eq, Debug)]
 pub enum LocatedError {
     /// The text is not JSON.
     Syntax { at: LineColumn },
     /// Nesting deeper than 127.
     TooDeep { at: LineColumn },
-    /// A number whose exponent exceeds the limit.
+    /// A number with an exponent beyond the limit.
     NumberRange { at: LineColumn },
     /// An allocation failed.
     Memory,
 }
 
-/// The reason, then the line and the column.
+/// Displays the reason, then the line and the column.
 impl fmt::Display for LocatedError {
     ghost output = { λ error. Some (message error) };
 
@@ -39,7 +39,7 @@ impl fmt::Display for LocatedError {
 impl Error for LocatedError {}
 
 impl JsonError {
-    /// Returns the error with its line and column in `text`, the text that was rejected.
+    /// Returns the error with its line and column in `text`, which is the rejected text.
     ///
     /// ```
     /// let value = from_json(alloc, &mut cache, text).map_err(|error| error.locate(text))?;

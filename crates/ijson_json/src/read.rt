@@ -1,9 +1,14 @@
-//! Reading JSON.
+//! The JSON parser.
 //!
-//! `from_json` skips white space and reads one value by `value`, which dispatches on its first byte. It reads arrays and objects itself,
-//! their commas and brackets by `delimiter`, and collects their elements and members in `scratch`. Everything else is read by `scalar`,
-//! which uses `string` (with `escape` for the part after a backslash) and `number`. Of a string, the run without an escape is tried first,
-//! and of a number, the single pass over a common one.
+//! `from_json` skips white space and reads one value with `value::read_value`.
+//!
+//! - `value`: chooses the kind of a value by its first byte, and reads arrays and objects.
+//! - `delimiter`: reads the commas and closing brackets of arrays and objects.
+//! - `scratch`: stores elements and members until their array or object ends.
+//! - `scalar`: reads all other values with `string` and `number`.
+//! - `string`: reads a string, and tries a run without an escape first.
+//! - `escape`: reads the escapes of a string.
+//! - `number`: reads a number, and tries a single pass over a common number first.
 
 ghost use Rattle.std.specs.Prelude.{◌≡◌, ◌≢◌, ◌≤◌, MatchResult, IfOk, IfErr};
 ghost use Rattle.ijson_value.specs.Tree.{Tree, depth};
@@ -53,7 +58,7 @@ fn located(fault: Fault, length: usize) -> JsonError
     }
 }
 
-/// Reads the value of a whole text.
+/// Reads a whole text: one value with optional white space around it.
 fn read_text<S: BuildHasher>(
     alloc: Global,
     cache: &mut StringCache<S>,
@@ -85,9 +90,10 @@ fn read_text<S: BuildHasher>(
     })
 }
 
-/// Parses a JSON text (RFC 8259), which may be surrounded by white space.
+/// Parses `text` as JSON (RFC 8259), with optional white space around the value.
 ///
-/// Keys and strings are interned in the cache. A duplicate key replaces the value and keeps its first index.
+/// Keys and strings are interned in `cache`. A duplicate key replaces the earlier value and keeps
+/// the earlier index.
 ///
 /// ```
 /// let value = from_json(alloc, &mut cache, "{\"a\": [1.50, 1e2]}")?;
@@ -95,36 +101,38 @@ fn read_text<S: BuildHasher>(
 ///
 /// # Errors
 ///
-/// Fails if the text is not JSON, if more than 127 containers are open, if the exponent of a number without trailing zeros is outside
-/// -2^30 to 2^30, or if an allocation fails. The first fault from the left is returned. Some strings of the text may then be in the cache.
+/// Returns the first error from left to right. Fails if `text` is not JSON, if more than 127
+/// containers are open, if the canonical exponent of a number is outside -2^30 to 2^30, or if an
+/// allocation fails. After an error, strings of `text` may be in the cache.
 ///
 /// # Cost
 ///
-/// Linear in the text, except for hash lookups of keys and strings. It recurses once per level, at most 127 times. Besides the value, it
-/// allocates for the elements and members of open arrays and objects, and for the content of the longest string with an escape.
+/// Linear in `text`, except for hash lookups of keys and strings. Recurses once per level, at most
+/// 127 times. Besides the value, allocates for the elements and members of open arrays and objects,
+/// and for the content of the longest string with an escape.
 #[tactic(auto, using(crate::proofs::grammar::AcceptedDepth::answers_depth, crate::proofs::faults::WholeTexts::answers_printed))]
 pub fn from_json<S: BuildHasher>(
     alloc: Global,
     cache: &mut StringCache<S>,
     text: &str,
 ) -> Result<IValue, JsonError>
-    // The value is the one that the text spells, within the limits.
+    // The value is the tree that `text` spells, within the limits.
     ensures accepted { IfOk result (λ value. Accepted text.now value.tree) }
-    // It is nested no deeper than the limit.
+    // The value is nested no deeper than the limit.
     ensures nesting { IfOk result (λ value. depth value.tree ≤ max_depth) }
-    // The error of the text, unless memory runs out.
+    // The error is the error of `text`, unless an allocation failed.
     ensures error { IfErr result (λ error. error ≢ JsonError.Memory → IsErrorOf text.now error) }
-    // What the error means for each reading of the text.
+    // The text has the fault that the error reports.
     ensures refused { IfErr result (λ error. Refuses text.now error) }
-    // An accepted text is read, unless memory runs out.
+    // An accepted text is read as its tree, unless an allocation fails.
     ensures read { (t : Tree) → Accepted text.now t
         → MatchResult result (λ value. value.tree ≡ t) (λ error. error ≡ JsonError.Memory) }
-    // A printed text is read back, unless memory runs out.
+    // A printed text is read back as the same tree, unless an allocation fails.
     ensures printed { (t : Tree) → IsWellFormed t → depth t ≤ max_depth → text.now ≡ print t
         → MatchResult result (λ value. value.tree ≡ t) (λ error. error ≡ JsonError.Memory) }
-    // The cache only gains long strings that a slice of the text spells.
+    // The cache gains only strings of more than 7 bytes that a slice of `text` spells.
     ensures cache { AddsOnlyRead text.now cache.old cache.new }
-    // The cache has the value's long strings and keys.
+    // The cache contains each string and key of the value that has more than 7 bytes.
     ensures shared { IfOk result (λ value. AreShared cache.new value.tree) }
 {
     read_text(alloc, cache, text)

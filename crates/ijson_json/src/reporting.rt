@@ -1,4 +1,4 @@
-//! `report`: the error line and exit status for a result of `compact`.
+//! `report`: writes the error line for a result of `compact`, and returns the exit status.
 ghost use Rattle.std.specs.Prelude.{◌≡◌, ◌+◌, ◌^◌, ◌<◌, OnOk, Err};
 ghost use Rattle.ijson_json.specs.Status.{status_of};
 
@@ -9,14 +9,19 @@ use crate::fault::JsonError;
 use arrayvec::ArrayString;
 use std::fmt::Write;
 
-/// A capacity that exceeds the longest line, in bytes.
+/// The capacity of the line buffer, in bytes. Every error line is shorter.
 const LINE: usize = 64;
 
-/// Writes the line for an error, if there is one, to `errors`, and returns the exit status.
+/// Writes a line for the error, if any, to `errors`, and returns the exit status.
 ///
-/// The status is 0 for success, 1 for an input that is not JSON within the limits, 2 for a failed read or write, and 3 for a failed
-/// allocation. The line for `[1 2]` is `ijson: syntax at byte 3`. Does not allocate. A failed write ends the line and does not change
-/// the status. The failures of `errors` must be below 2^64 - 1.
+/// - 0: success
+/// - 1: the input is not JSON within the limits
+/// - 2: a read or a write failed
+/// - 3: an allocation failed
+///
+/// The line for `[1 2]` is `ijson: syntax at byte 3`. If a write fails, the rest of the line is not
+/// written, and the status is the same. Does not allocate. `failures` of `errors` must be below
+/// 2^64 - 1.
 pub fn report<W: Sink>(answer: &Result<(), CompactError>, errors: &mut W) -> u8
     requires { W.failed errors.old + 1 < 2 ^ 64 }
     ensures status { result ≡ status_of answer.now }
@@ -32,7 +37,7 @@ pub fn report<W: Sink>(answer: &Result<(), CompactError>, errors: &mut W) -> u8
     status(*error)
 }
 
-/// Returns the exit status for an error.
+/// Returns the exit status for `error`.
 fn status(error: CompactError) -> u8
     ensures { result ≡ status_of (Err error) }
 {

@@ -1,7 +1,8 @@
-//! Scanning a text, for the reader and the writer.
+//! Scanning of text, for the reader and the writer.
 //!
-//! `prefix` tests its leading bytes, `space` measures white space, and `run` measures unescaped bytes of a string. The last two process 16
-//! bytes at a time.
+//! - `prefix`: splits and strips leading bytes.
+//! - `space`: skips white space, 16 bytes at a time.
+//! - `run`: finds runs of unescaped bytes in a string, 16 bytes at a time.
 
 pub(crate) mod prefix;
 pub(crate) mod run;

@@ -1,5 +1,6 @@
-//! Writing a value as JSON: `push_value` appends any value, with strings by `quote`. The text grows as it is written; its length is not
-//! computed first.
+//! Writing JSON: `push_value` appends any value, and `quote` appends strings.
+//!
+//! The length of the text is not computed first. The output grows as it is written.
 ghost use Rattle.std.specs.Prelude.{◌≡◌, ◌++◌, IfOk, OnOk, OnErr};
 ghost use Rattle.std.specs.String.{string_bytes};
 ghost use Rattle.ijson_value.specs.WellFormed.{item_trees, pair_trees};
@@ -14,12 +15,13 @@ use quote::{push_member_key, push_string};
 pub use quote::{push_key, push_quoted};
 use std::alloc::{AllocError, Global};
 
-/// The initial capacity of JSON text that is written, in bytes, so that a short one takes one allocation.
+/// The initial capacity, in bytes, of the text that `to_json` writes. Short text needs one
+/// allocation.
 pub const INITIAL_CAPACITY: usize = 128;
 
 /// Returns the JSON text of `value`, without white space.
 ///
-/// Objects keep the order of their members, and numbers keep whether they have a decimal point.
+/// Objects keep the order of their members. Numbers keep whether they have a decimal point.
 ///
 /// ```
 /// let text = to_json(alloc, &value)?; // {"a":[1.5,100.0]} after reading { "a" : [1.50, 1e2] }
@@ -31,8 +33,9 @@ pub const INITIAL_CAPACITY: usize = 128;
 ///
 /// # Cost
 ///
-/// Time and memory are linear in the length of the text. Its capacity is 128 bytes at first and doubles as needed. The depth is not
-/// limited, but it recurses once per level, so a very deep value can overflow the stack.
+/// Time and memory are linear in the length of the text. The capacity is 128 bytes at first and
+/// doubles as needed. The depth is not limited: the function recurses once per level, so a very
+/// deep value can overflow the stack.
 pub fn to_json(alloc: Global, value: &IValue) -> Result<String, AllocError>
     ensures { IfOk result (λ text. string_bytes text ≡ print value.now.tree) }
 {
@@ -41,7 +44,7 @@ pub fn to_json(alloc: Global, value: &IValue) -> Result<String, AllocError>
     Ok(out)
 }
 
-/// Appends the JSON text of a value.
+/// Appends the JSON text of `value`.
 #[cycle(push)]
 #[inline(always)]
 pub(crate) fn push_value(out: &mut String, value: &IValue) -> Result<(), AllocError>
@@ -102,7 +105,7 @@ fn push_members(out: &mut String, object: &IObject) -> Result<(), AllocError>
 ///
 /// # Errors
 ///
-/// Returns `AllocError` if an allocation fails. `out` stays as it was.
+/// Returns `AllocError` if an allocation fails. Then `out` is unchanged.
 pub fn push_separator(out: &mut String, is_first: bool) -> Result<(), AllocError>
     ensures written { OnOk result (string_bytes out.new ≡ string_bytes out.old ++ separator is_first) }
     ensures refused { OnErr result (string_bytes out.new ≡ string_bytes out.old) }

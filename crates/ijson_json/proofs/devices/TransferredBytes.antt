@@ -1,4 +1,4 @@
--- The known bytes of a device after several transfers.
+-- Lemmas about the known bytes of a device after several reads or writes.
 use Rattle.std.proofs.lemmas.List.{take_rest}
 use Rattle.std.proofs.Common.{subst, arith, take, drop, length, ◌+◌, ◌<◌}
 use Rattle.std.proofs.Common.{take-append-drop, length-drop, take-add, ◌-◌, ◌≡◌, ◌∙◌, ap, sym, refl, ℕ, List, [], ◌++◌, Some, None}
@@ -8,19 +8,21 @@ use Rattle.std.specs.Io.KnownBytes.{Appends, Consumes, Keeps}
 use Rattle.std.proofs.KnownBytes.{Appends-kept, Appends-trans, Consumes-trans}
 use Rattle.ijson_json.specs.WritesBeginning.{WritesBeginning}
 
--- a piece after the first i bytes, which a later write to the list kept
+-- Reading `n` bytes after the first `i` bytes reads `i + n` bytes in total, if the second read
+-- keeps the first `i` bytes.
 pub consumes_piece : (a b c : Option (List ℕ)) (i n : ℕ) (xs ys : List ℕ) → Consumes a b (take i xs) → take i ys ≡ take i xs
     → Consumes b c (take n (drop i ys)) → Consumes a c (take (i + n) ys)
 consumes_piece a b c i n xs ys p kept q =
     subst (Consumes a c) (ap (λ front. front ++ take n (drop i ys)) (sym kept) ∙ sym (take-add i n ys)) (Consumes-trans a b c _ _ p q)
 
--- n bytes of `&xs[i..]`, after the first i
+-- Writing `n` bytes of `&xs[i..]` after the first `i` bytes of `xs` writes the first `i + n` bytes.
 pub appends_rest : (a b c : Option (List ℕ)) (i n : ℕ) (xs : List ℕ) → Appends a b (take i xs)
     → Appends b c (take n (take (length xs - i) (drop i xs))) → Appends a c (take (i + n) xs)
 appends_rest a b c i n xs p q =
     subst (Appends a c) (ap (λ l. take i xs ++ take n l) (take_rest xs i) ∙ sym (take-add i n xs)) (Appends-trans a b c _ _ p q)
 
--- a beginning was written, but not all, if a fault followed it
+-- If a write fails after the first `i` bytes, and more bytes are left, a proper prefix of the text
+-- was written.
 pub begun : (a b c : Option (List ℕ)) (i : ℕ) (xs : List ℕ) → i < length xs → Appends a b (take i xs) → Keeps b c → WritesBeginning a c xs
 begun a b c i xs below p same = record {
   front = take i xs;
@@ -30,7 +32,7 @@ begun a b c i xs below p same = record {
   taken = Appends-kept a b c _ p same;
 }
 
--- some bytes equal the known ones
+-- If the bytes of a device are known, some list is equal to them.
 pub known_or_none : (a : Option (List ℕ)) → (bytes : List ℕ) × IfSome a (λ xs. xs ≡ bytes)
 known_or_none None = ([], tt)
 known_or_none (Some xs) = (xs, refl)

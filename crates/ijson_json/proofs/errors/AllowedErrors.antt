@@ -1,4 +1,4 @@
--- The error of a text is one that the text allows.
+-- Lemmas: the error of a text satisfies `Refuses`.
 use Rattle.std.proofs.Common.{◌≡◌, ℕ, ◌≤◌, List, [], ◌∷◌, ◌++◌, length, take, drop, refl, sym, ap, subst, ◌∙◌, append_assoc, append-nil, arith, inl, inr}
 use Rattle.std.specs.Prelude.{◌⊎◌}
 use Rattle.std.proofs.lemmas.Bool.{false_from_ne_true}
@@ -23,21 +23,22 @@ use Rattle.ijson_json.proofs.errors.LimitErrors.{bracket_deep, number_past}
 use Rattle.ijson_json.proofs.errors.Closings.{Closed, closed, HasValue}
 use Rattle.ijson_json.proofs.errors.OneError.{bad_escape_unread}
 
--- the text before an error begins one within the limits
+-- If some accepted text begins with `before`, that text is a value within the nesting limit.
 begun : (before : List ℕ) (b : BeginsWithin before) → HasValue (before ++ b.0) max_depth
 begun before (more, tree, (deepest, within, r)) =
     (r.written, before ++ more, [], r.spelled, append-nil (before ++ more), omega (arith, within, r.deepest_is))
 
--- a value at a place, and closing brackets
+-- If a value may begin after `before`, the value `u` and closing brackets extend `before` to a JSON
+-- text.
 value_closed : (opened : ℕ) (before : List ℕ) → IsValuePlace opened before → BeginsWithin before → (u : Tree) (text : List ℕ)
     → IsValue u text → Closed opened before max_depth u text
 value_closed opened before i b u text v = closed i b.0 max_depth (λ o. begun before b) u text v
 
--- a text that is spelled is read
+-- A text that spells the tree `t` reads as `t` with duplicate keys resolved.
 spelled_reads : (t : Tree) (text : List ℕ) → Spaced (λ value. IsValue t value) text → Reads text (settled t) (depth t) (is_ranged t)
 spelled_reads t text s = record { written = t; spelled = s; tree_is = refl; deepest_is = refl; ranged_is = refl }
 
--- an empty container at the bracket is one too deep
+-- If the maximum number of containers is open, another opening bracket exceeds the nesting limit.
 bracket_closed : (E : Type 0) (S : Shape E) (L : Listing E S) (before rest : List ℕ) → IsValuePlace max_depth before → BeginsWithin before
     → (L.opening ≡ 91) ⊎ (L.opening ≡ 123) → PassesDepth (before ++ L.opening ∷ rest)
 bracket_closed E S L before rest i b opens =
@@ -63,7 +64,7 @@ passes_depth : (before : List ℕ) (bracket : ℕ) (rest : List ℕ) → IsValue
 passes_depth before bracket rest i b (inl e) = rw e (bracket_closed Tree items_shape arrays before rest i b (inl refl))
 passes_depth before bracket rest i b (inr e) = rw e (bracket_closed (List ℕ × Tree) members_shape objects before rest i b (inr refl))
 
--- a number beyond the limit, and closing brackets
+-- A text with a number out of range satisfies `PassesRange`.
 passes_range : {text : List ℕ} {at : ℕ} (e : OutOfRangeAt text at) → PassesRange (e.before ++ e.rest)
 passes_range e =
     let (count, front, past) = e.past in
@@ -84,7 +85,7 @@ passes_range e =
       first = false_from_ne_true (is_ranged c.tree) (λ r. not_both (is_ranged (number past.0)) (c.ranged r) past.2);
     }
 
--- the offset is within the text
+-- The offset of an error is at most the length of the text.
 offset_within : {text : List ℕ} {at : ℕ} (before rest : List ℕ) → text ≡ before ++ rest → at ≡ length before → at ≤ length text
 offset_within before rest is at = omega (arith, at, ap length is, length-append before rest)
 

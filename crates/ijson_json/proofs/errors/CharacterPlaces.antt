@@ -1,4 +1,4 @@
--- What stands in a string: characters, up to its closing quote.
+-- Lemmas about positions inside a string: characters follow, up to the closing quote.
 use Rattle.std.proofs.Common.{◌≡◌, ℕ, Bool, false, List, [], ◌∷◌, ◌++◌, refl, sym, ap, subst, ◌∙◌, append_assoc, append-nil, arith, inl, inr}
 use Rattle.std.specs.Prelude.{◌⊎◌, ◌==◌, not, IsTrue, Some}
 use Rattle.std.proofs.lemmas.Bool.{ne_eqb}
@@ -22,23 +22,26 @@ use Rattle.ijson_json.proofs.errors.Overlaps.{IsLonger, overlap, run_behind}
 use Rattle.ijson_json.proofs.errors.Completions.{IsCompleted}
 use Rattle.ijson_json.proofs.errors.Places.{member_pair, descends}
 
--- the text begins with the rest of a string
+-- Holds if `text` begins with the rest of a string and its closing quote.
 abbrev pub HasContent : List ℕ → Type 0
 HasContent text = (s rest : List ℕ) × ContentAt text s rest
 
--- if a text begins with a JSON string, and with a quote and the characters of `body`, `rest` begins with the rest of a string
+-- If a text begins with a JSON string, and also with a quote and `body`, the rest of a string
+-- follows `body`.
 string_goes : (k v z body s rest : List ℕ) → IsString k v → StringBody body s → v ++ z ≡ 34 ∷ (body ++ rest) → HasContent rest
 string_goes k v z body s rest (i, h, f) b e =
     let c = content_behind rest z b h (tails 34 34 _ _ (sym e ∙ enclosed_with 34 34 v i z f)) in (c.0, z, c.1)
 
--- if a text begins with a value, and with a quote and the characters of `body`, `rest` begins with the rest of a string
+-- If a text begins with a value, and also with a quote and the characters `body`, the rest of a
+-- string follows `body`.
 value_goes : (t : Tree) (v z body s rest : List ℕ) → IsValue t v → StringBody body s → v ++ z ≡ 34 ∷ (body ++ rest) → HasContent rest
 value_goes (string k) v z body s rest w b e = string_goes k v z body s rest w b e
 value_goes t v z body s rest w b e = absurd
     (let k : 3 ≡ rank t = kind_at t 34 (body ++ rest) (34 ∷ (body ++ rest)) z refl (record { front = v; holds = w; is = sym e }) in
     omega (arith, k))
 
--- if a text begins with a value in white space, and with an open string, `rest` begins with the rest of a string
+-- If a text begins with a value in white space, and also with an open string `p`, the rest of a
+-- string follows `p`.
 spaced_goes : (t : Tree) (first z p rest : List ℕ) → Spaced (λ value. IsValue t value) first → IsOpenString p → first ++ z ≡ p ++ rest
     → HasContent rest
 spaced_goes t first z p rest (b, v, a, sb, w, sa, f) (gap, body, s, sg, h, e) g =
@@ -48,7 +51,8 @@ spaced_goes t first z p rest (b, v, a, sb, w, sa, f) (gap, body, s, sg, h, e) g 
     let at = run_same is_space b gap (v ++ (a ++ z)) (34 ∷ (body ++ rest)) sb sg (value-past_space t v (a ++ z) w) refl same in
     value_goes t v (a ++ z) body s rest w h at.1
 
--- if a text begins with a member, and with an open string, `rest` begins with the rest of a string
+-- If a text begins with a member in white space, and also with an open string `p`, the rest of a
+-- string follows `p`.
 key_goes : (m : List ℕ × Tree) (first z p rest : List ℕ) → Spaced (λ pair. Pair m pair) first → IsOpenString p → first ++ z ≡ p ++ rest
     → HasContent rest
 key_goes m first z p rest s o g =
@@ -56,12 +60,14 @@ key_goes m first z p rest s o g =
     let split : first ++ z ≡ q ++ 58 ∷ (v ++ z) = ap (λ (y : List ℕ). y ++ z) f ∙ append_assoc q (58 ∷ v) z in
     spaced_goes (string m.0) q (58 ∷ (v ++ z)) p rest is_key o (sym split ∙ g)
 
--- a text that begins with an open string begins with white space and a byte other than `closing`
+-- If a text begins with an open string, its first byte after white space is a quote, which differs
+-- from `closing`.
 string_opening : (closing : ℕ) → ((34 == closing) ≡ false) → (p rest : List ℕ) → IsOpenString p → Opening closing (p ++ rest)
 string_opening closing apart p rest (gap, body, s, sg, h, e) =
     record { gap = gap; cur = 34 ∷ (body ++ rest); space = sg; past = refl; other = apart; is = rw e (simp append_assoc) }
 
--- if a character may begin after `before` in the JSON text `before ++ rest`, then `rest` begins with the rest of a string
+-- If a character may begin after `before` in a JSON text `before ++ rest`, then `rest` begins with
+-- the rest of a string.
 pub content_at : (before rest : List ℕ) (t : Tree) → IsCharacterPlace before → Spaced (λ value. IsValue t value) (before ++ rest) → HasContent rest
 content_at before rest t (opened, i) s =
     let d = descends i rest start t (before ++ rest) [] s tt (append-nil (before ++ rest)) in
@@ -89,7 +95,7 @@ content_at before rest t (opened, i) s =
 
 -- ---- an escape
 
--- content from a backslash on begins with an escape
+-- If the rest of a string begins with a backslash, it begins with an escape.
 pub escape_first : (letters : List ℕ) → HasContent (92 ∷ letters)
     → (written meant rest : List ℕ) × Character written meant × (92 ∷ letters ≡ written ++ rest)
 escape_first letters (s, rest, (body, h, e)) = go h e
@@ -99,7 +105,7 @@ escape_first letters (s, rest, (body, h, e)) = go h e
     go empty e = absurd (heads_apart 92 34 _ _ e refl)
     go (one_more {written} {meant} {body} c h) e = (written, meant, body ++ 34 ∷ rest, c, e ∙ append_assoc written body (34 ∷ rest))
 
--- a space is no letter and no digit of an escape
+-- A space is not the letter of a short escape.
 short_apart : (c : ℕ) → short_escape 32 ≡ Some c → ⊥
 unfolding short_escape
 short_apart c h = absurd cc
@@ -128,7 +134,7 @@ escape_others x y (unicode {h} {u} hex i j) e = (refl, (refl, other_digits h u h
 escape_others x y (pair {h} {l} {u} {v} hex i low j) e =
     (refl, (refl, all-append _ h (92 ∷ 117 ∷ l) (other_digits h u hex) (refl, (refl, other_digits l v low))))
 
--- an escape ends before a space
+-- If a space follows a backslash and `mid`, the escape at the backslash ends before the space.
 escape_within : {w m : List ℕ} (mid z y : List ℕ) → Character w m → 92 ∷ (mid ++ 32 ∷ z) ≡ w ++ y → (more : List ℕ) × (92 ∷ mid ≡ w ++ more)
 escape_within {w} mid z y c e =
     let others = escape_others (mid ++ 32 ∷ z) y c e in
@@ -143,7 +149,7 @@ escape_within {w} mid z y c e =
       ]
     ]
 
--- after a backslash that begins no escape, no JSON text continues to a place where a space may follow
+-- If `before` and a space begin a JSON text, `before` does not contain an invalid escape.
 pub no_escape_before : {text : List ℕ} {at : ℕ} (a : BadEscapeAt text at) (before y : List ℕ) → IsCompleted (before ++ 32 ∷ [])
     → IsLonger a.before before (92 ∷ a.letters) y → ⊥
 no_escape_before a before y (closing, t, s) (c, mid, e, f) =

@@ -1,4 +1,5 @@
--- Bytes that begin a text, a value and closing brackets: no deeper than that text or the value.
+-- Lemmas: a value and closing brackets complete the beginning of a JSON text, without increasing
+-- the maximum depth.
 use Rattle.std.proofs.Common.{◌≡◌, ℕ, suc, ◌+◌, ◌-◌, ◌≤◌, true, false, max, List, [], ◌∷◌, ◌++◌, refl, sym, ap, subst, ◌∙◌, append_assoc, append-nil, arith, inl, inr}
 use Rattle.std.specs.Prelude.{◌⊎◌}
 use Rattle.ijson_value.specs.Tree.{Tree, depth}
@@ -16,7 +17,8 @@ use Rattle.ijson_json.proofs.errors.ListParts.{Opening, and_first, and_last, aft
 use Rattle.ijson_json.proofs.errors.Places.{member_pair, key_opening, member_value}
 
 module _ (E : Type 0) (S : Shape E) where
-  -- some elements and another are a list, no deeper than the bound or that one
+  -- Holds if the elements `pre` and the element `e` form a list. The list is no deeper than `bound`
+  -- or `e`.
   record Filled (pre : List ℕ) (bound : ℕ) (e : E) (text : List ℕ) : Type 0 where
     first : E
     more : List E
@@ -47,7 +49,9 @@ module _ (E : Type 0) (S : Shape E) where
         ranged = λ h. r.ranged (and_last (is_ranged (S.inner f.0)) (all_ranged E S (r.first ∷ r.more)) h);
       }
 
-  -- and so is their container
+  -- Holds if the elements `pre` and the element `e` form a container.
+  --
+  -- The container is no deeper than `bound`, or one level deeper than `e`.
   record FilledValue (L : Listing E S) (gap pre : List ℕ) (bound : ℕ) (e : E) (text : List ℕ) : Type 0 where
     tree : Tree
     spelled : Spaced (λ value. IsValue tree value) (gap ++ L.opening ∷ ((pre ++ text) ++ S.closing ∷ []))
@@ -74,14 +78,16 @@ module _ (E : Type 0) (S : Shape E) where
         ranged = λ r. f.ranged (sym (L.ranged_is es) ∙ r);
       }
 
--- ---- inside containers
+-- ---- a value inside containers
 
--- the text begins with a value, with white space around it, no deeper than the bound
+-- Holds if `text` begins with a value of depth at most `bound`, with white space around it.
 abbrev pub HasValue : List ℕ → ℕ → Type 0
 HasValue text bound =
     (t : Tree) × (whole x : List ℕ) × Spaced (λ value. IsValue t value) whole × (whole ++ x ≡ text) × (depth t ≤ bound)
 
--- the value at a place, and brackets, complete the bytes before it
+-- Holds if the value `u` and closing brackets extend `before` to a JSON text.
+--
+-- The JSON text is no deeper than `bound`, or than `u` inside `opened` containers.
 pub record Closed (opened : ℕ) (before : List ℕ) (bound : ℕ) (u : Tree) (text : List ℕ) : Type 0 where
   pub closers : List ℕ
   pub closing : IsClosers closers
@@ -90,7 +96,7 @@ pub record Closed (opened : ℕ) (before : List ℕ) (bound : ℕ) (u : Tree) (t
   pub deep : depth tree ≤ max bound (opened + depth u)
   pub ranged : is_ranged tree ≡ true → is_ranged u ≡ true
 
--- one more bracket, behind the others
+-- The text of an array is its beginning, the value `text`, then all closing brackets.
 array_text : (gap items inside text closers : List ℕ) → gap ++ 91 ∷ ((items ++ (inside ++ (text ++ closers))) ++ 93 ∷ [])
     ≡ (gap ++ 91 ∷ (items ++ inside)) ++ (text ++ (closers ++ 93 ∷ []))
 array_text gap items inside text closers = simp append_assoc
@@ -100,14 +106,15 @@ object_text : (gap members key inside text closers : List ℕ)
     ≡ (gap ++ 123 ∷ (members ++ (key ++ 58 ∷ inside))) ++ (text ++ (closers ++ 125 ∷ []))
 object_text gap members key inside text closers = simp append_assoc
 
--- a member, up to the closing brackets of its value
+-- If closing brackets complete the value of a member, they complete the member.
 member_closed : (k key inside closers : List ℕ) (t : Tree) (text : List ℕ) → Spaced (λ string. IsString k string) key
     → Spaced (λ value. IsValue t value) (inside ++ (text ++ closers))
     → Spaced (λ pair. Pair (k, t) pair) (key ++ 58 ∷ (inside ++ (text ++ closers)))
 member_closed k key inside closers t text p s =
     spaced_pair k t (key ++ 58 ∷ (inside ++ (text ++ closers))) (key, inside ++ (text ++ closers), p, s, refl)
 
--- the container of a value that is closed
+-- If closing brackets complete the value in a container, these and the bracket of the container
+-- complete the container.
 closed_in : {opened : ℕ} (before inside : List ℕ) (bound d : ℕ) (bracket : ℕ) (u t : Tree) (text whole : List ℕ)
     → (bracket ≡ 93) ⊎ (bracket ≡ 125) → (c : Closed opened inside (bound - 1) u text) → Spaced (λ value. IsValue t value) whole
     → whole ≡ before ++ (text ++ (c.closers ++ bracket ∷ [])) → 1 ≤ d → d ≤ bound → depth t ≤ max d (suc (depth c.tree))
@@ -121,7 +128,10 @@ closed_in before inside bound d bracket u t text whole b c s e low high deep ran
   ranged = λ r. c.ranged (ranged r);
 }
 
--- `behind` begins no value only if none begins at the place
+-- If a value may begin after `before`, the value `u` and closing brackets extend `before` to a JSON
+-- text.
+--
+-- `before` must be the beginning of a value of depth at most `bound`.
 pub closed : {opened : ℕ} {before : List ℕ} → Inside IsSpace opened before → (behind : List ℕ) (bound : ℕ)
     → (Opening 93 (before ++ behind) → HasValue (before ++ behind) bound) → (u : Tree) (text : List ℕ) → IsValue u text
     → Closed opened before bound u text

@@ -1,4 +1,4 @@
--- Bytes inside containers begin a text: what is behind them and the brackets complete it.
+-- Lemmas: further bytes and closing brackets extend a text with open containers to a JSON text.
 use Rattle.std.proofs.Common.{◌≡◌, ℕ, List, [], ◌∷◌, ◌++◌, refl, sym, ap, subst, append_assoc, append-nil, inl, inr}
 use Rattle.std.specs.Prelude.{◌⊎◌}
 use Rattle.ijson_number.specs.Decimal.{Decimal}
@@ -16,12 +16,12 @@ use Rattle.ijson_json.proofs.reading.ArraysAndObjects.{arrays, objects}
 use Rattle.ijson_json.proofs.reading.StringContent.{body-push}
 use Rattle.ijson_json.proofs.errors.Places.{member_pair}
 
--- some bytes behind the text make it a value with white space around it
+-- Holds if some bytes after `text` extend it to a JSON text.
 abbrev pub IsCompleted : List ℕ → Type 0
 IsCompleted text = (closing : List ℕ) × (t : Tree) × Spaced (λ value. IsValue t value) (text ++ closing)
 
 module _ (E : Type 0) (S : Shape E) where
-  -- elements with their commas, and one more
+  -- Elements with a comma after each, and one more element, form a list.
   each_list : {P : List ℕ → Type 0} {pre : List ℕ} (e : E) (text : List ℕ) → EachWithComma P pre
       → ((first : List ℕ) → P first → (f : E) × Spaced (λ inside. S.Is f inside) first) → Spaced (λ inside. S.Is e inside) text
       → (f : E) × (more : List E) × IsList S.Is (f ∷ more) (pre ++ text)
@@ -31,7 +31,8 @@ module _ (E : Type 0) (S : Shape E) where
       let r = each_list e text each to s in
       (f.0, r.0 ∷ r.1, (first, more ++ text, f.1, r.2, append_assoc first (44 ∷ more) text))
 
-  -- the container of these
+  -- An opening bracket, elements with a comma after each, one more element and the closing bracket
+  -- form a container.
   each_wrapped : {P : List ℕ → Type 0} {pre : List ℕ} (L : Listing E S) (gap : List ℕ) (e : E) (text : List ℕ) → IsSpace gap
       → EachWithComma P pre → ((first : List ℕ) → P first → (f : E) × Spaced (λ inside. S.Is f inside) first)
       → Spaced (λ inside. S.Is e inside) text
@@ -43,7 +44,8 @@ module _ (E : Type 0) (S : Shape E) where
         (gap, list, [], sg, L.builds (r.0 ∷ r.1) (pre ++ text) r.2, tt, ap (λ (l : List ℕ). gap ++ l) (sym (append-nil list))),
       )
 
--- what completes the innermost text and a bracket for each container complete the whole
+-- If some bytes complete the part inside the innermost container, some bytes complete the whole
+-- text.
 pub completed : {P : List ℕ → Type 0} {opened : ℕ} {before : List ℕ} → Inside P opened before → (rest : List ℕ)
     → ((last : List ℕ) → P last → IsCompleted (last ++ rest)) → IsCompleted (before ++ rest)
 completed (here {text} p) rest at = at text p
@@ -58,7 +60,7 @@ completed (in_object gap key {members} {inside} sg each k i) rest at =
     let w = each_wrapped (List ℕ × Tree) members_shape objects gap (k.0, t) text sg each member_pair member in
     (closing ++ 125 ∷ [], w.0, subst (λ (l : List ℕ). Spaced (λ value. IsValue w.0 value) l) (simp append_assoc) w.1)
 
--- a quote closes an open string after one more character
+-- An open string, one more character and a quote form a string.
 string_closed : (text written meant : List ℕ) → Character written meant → IsOpenString text
     → (k : List ℕ) × Spaced (λ string. IsString k string) ((text ++ written) ++ 34 ∷ [])
 string_closed text written meant c (gap, body, s, sg, h, e) = (
@@ -88,27 +90,27 @@ open_completed written meant character text (inr (gap, members, key, sg, each, o
       subst (λ (l : List ℕ). Spaced (λ value. IsValue w.0 value) l) (rw e (simp append_assoc)) w.1,
     )
 
--- any character may follow where a character of a string may begin
+-- If a character of a string may begin after `before`, any character may follow `before`.
 pub character_completed : (before written meant : List ℕ) → Character written meant → IsCharacterPlace before
     → IsCompleted (before ++ written)
 character_completed before written meant c (opened, i) = completed i written (open_completed written meant c)
 
--- a space may follow where a character of a string may begin
+-- If a character of a string may begin after `before`, a space may follow `before`.
 pub space_in_string : (before : List ℕ) → IsCharacterPlace before → IsCompleted (before ++ 32 ∷ [])
 space_in_string before place = character_completed before (32 ∷ []) (32 ∷ []) (unescaped refl) place
 
--- white space may follow where a value may begin
+-- If a value may begin after `before`, white space may follow `before`.
 pub space_completed : {opened : ℕ} {before : List ℕ} → IsValuePlace opened before → IsCompleted (before ++ 32 ∷ [])
 space_completed place = completed place (32 ∷ [])
     (λ last gap. (null_text, null, (last ++ 32 ∷ [], null_text, [], all-append _ last (32 ∷ []) gap (refl, tt), refl, tt, refl)))
 
--- a number may follow where a value may begin
+-- If a value may begin after `before`, a number may follow `before`.
 pub number_completed : {opened : ℕ} {before : List ℕ} (text : List ℕ) (n : Decimal) → IsValuePlace opened before → Spells text n
     → IsCompleted (before ++ text)
 number_completed text n place spelled = completed place text
     (λ last gap. ([], number n, (last, text, [], gap, spelled, tt, append_assoc last text [])))
 
--- an opening bracket may follow where a value may begin
+-- If a value may begin after `before`, an opening bracket may follow `before`.
 pub bracket_completed : {opened : ℕ} {before : List ℕ} (bracket : ℕ) → IsValuePlace opened before → (bracket ≡ 91) ⊎ (bracket ≡ 123)
     → IsCompleted (before ++ bracket ∷ [])
 bracket_completed bracket place (inl e) = rw e (completed place (91 ∷ [])

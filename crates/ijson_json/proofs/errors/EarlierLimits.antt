@@ -1,4 +1,4 @@
--- A text has at most one error of a limit: the bytes before the second would exceed the limit of the first.
+-- Lemmas: if some accepted text begins with `before`, then `before` does not exceed a limit.
 use Rattle.std.proofs.Common.{◌≡◌, ℕ, zero, suc, ◌+◌, ◌<◌, ◌≤◌, Bool, true, false, List, [], ◌∷◌, ◌++◌, length, take, refl, sym, ap, subst, ◌∙◌, append_assoc, append-nil, arith, inl, inr}
 use Rattle.std.specs.Prelude.{◌⊎◌, ◌||◌, ◌&&◌, nat_le}
 use Rattle.std.proofs.lemmas.Bool.{cases_lt}
@@ -19,15 +19,15 @@ use Rattle.ijson_json.proofs.errors.LimitErrors.{accepted_shallow, accepted_rang
 
 -- ---- the last byte before a value
 
--- a byte of a number or of `null`, `true` and `false`
+-- Returns `true` if the byte can occur in a number, `null`, `true` or `false`.
 abbrev pub is_token : ℕ → Bool
 is_token b = is_number_byte b || (nat_le 97 b && nat_le b 122)
 
--- the text is empty, or its last byte is in no number and no word
+-- Holds if `text` is empty, or if its last byte cannot occur in a number or a word.
 abbrev EndsPlain : List ℕ → Type 0
 EndsPlain text = (text ≡ []) ⊎ ((front : List ℕ) × (b : ℕ) × (is_token b ≡ false) × (text ≡ front ++ b ∷ []))
 
--- a text behind another
+-- If `EndsPlain` holds for two texts, it holds for their concatenation.
 ends_behind : (a b : List ℕ) → EndsPlain a → EndsPlain b → EndsPlain (a ++ b)
 ends_behind a b p (inr (front, c, plain, e)) = inr (a ++ front, c, plain, ap (λ (l : List ℕ). a ++ l) e ∙ sym (append_assoc a front (c ∷ [])))
 ends_behind a b p (inl e) = subst EndsPlain (rw e (sym (append-nil a))) p
@@ -55,7 +55,7 @@ place_ends (in_object gap key {members} {inside} sg each k i) =
     let colon : EndsPlain (((gap ++ 123 ∷ members) ++ key) ++ 58 ∷ []) = inr ((gap ++ 123 ∷ members) ++ key, 58, refl, refl) in
     subst EndsPlain (simp append_assoc) (ends_behind (((gap ++ 123 ∷ members) ++ key) ++ 58 ∷ []) inside colon (place_ends i))
 
--- no value begins right after bytes of a number or a word
+-- A value does not begin right after a byte of a number or a word.
 pub within_token : {opened : ℕ} {before : List ℕ} (front : List ℕ) (c : ℕ) (more : List ℕ) → Inside IsSpace opened before
     → before ≡ front ++ c ∷ more → Run is_token (c ∷ more) → ⊥
 within_token front c more i e h = go (place_ends i) e
@@ -68,7 +68,7 @@ within_token front c more i e h = go (place_ends i) e
         no_end (d ∷ front) e = cc
     go (inr (a, b, plain, f)) e = not_both (is_token b) (last_passes is_token front more c a b h (sym e ∙ f)) plain
 
--- the bytes of a number
+-- A byte that can occur in a number satisfies `is_token`.
 number_token : (b : ℕ) → is_number_byte b ≡ true → is_token b ≡ true
 number_token b h = rw h refl
 
@@ -76,9 +76,9 @@ pub number_tokens : (text : List ℕ) → Run is_number_byte text → Run is_tok
 number_tokens [] h = tt
 number_tokens (b ∷ text) h = (number_token b h.0, number_tokens text h.1)
 
--- ---- the front of a number
+-- ---- the longest prefix that begins a number
 
--- as far as the text is the same, so is the front of its number
+-- A number out of range that ends within `seen` is out of range, whatever text follows `seen`.
 same_unread : (seen y z : List ℕ) (count : ℕ) → IsNumberFront (seen ++ y) count → IsPastLimit (take count (seen ++ y))
     → count < length seen → IsUnread (seen ++ z) OutOfRange
 same_unread seen y z count f past less =
@@ -95,7 +95,7 @@ same_unread seen y z count f past less =
       subst IsPastLimit one past,
     )
 
--- a beginning of a run is one
+-- If the first `count` bytes of a text pass the test, so do the bytes of a shorter prefix `seen`.
 run_front : (p : ℕ → Bool) (seen y : List ℕ) (count : ℕ) → Run p (take count (seen ++ y)) → length seen ≤ count → Run p seen
 run_front p [] y count h most = tt
 run_front p (c ∷ seen) y zero h most = absurd (omega arith)
@@ -103,14 +103,16 @@ run_front p (c ∷ seen) y (suc count) h most = (h.0, run_front p seen y count h
 
 -- ---- a limit that is exceeded earlier
 
--- no text within the limits begins with a bracket at the maximum depth and more
+-- If some accepted text begins with `before`, then `before` does not contain a bracket that is too
+-- deep.
 pub no_deep_before : {text : List ℕ} {at : ℕ} (a : TooDeepAt text at) (before y : List ℕ) → BeginsWithin before
     → IsLonger a.before before (a.bracket ∷ a.rest) y → ⊥
 no_deep_before a before y (more, tree, accepted) (c, mid, e, f) =
     accepted_shallow (before ++ more) tree a.before a.bracket (mid ++ more) accepted
     (rw (e, heads _ _ _ _ f) (append_assoc a.before (c ∷ mid) more)) a.place a.opens
 
--- nor with a number beyond the limit and more, where a value may begin
+-- If some accepted text begins with `before`, and a value may begin after `before`, then `before`
+-- does not contain a number out of range.
 pub no_range_before : {text : List ℕ} {at : ℕ} (a : OutOfRangeAt text at) (opened : ℕ) (before y : List ℕ) → BeginsWithin before
     → IsValuePlace opened before → IsLonger a.before before a.rest y → ⊥
 no_range_before a opened before y (more, tree, accepted) i (c, mid, e, f) =

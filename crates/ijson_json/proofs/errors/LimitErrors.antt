@@ -1,4 +1,4 @@
--- A text within the limits has no error of a limit, and no text has two.
+-- Lemmas: an accepted text does not exceed a limit.
 use Rattle.std.proofs.Common.{◌≡◌, ℕ, ◌<◌, ◌≤◌, true, false, List, ◌∷◌, ◌++◌, refl, sym, ap, ◌∙◌, arith, inl, inr}
 use Rattle.std.specs.Prelude.{◌==◌, ◌⊎◌, ◌≤◌}
 use Rattle.ijson_number.specs.NumberFront.{IsUnread}
@@ -16,20 +16,21 @@ use Rattle.ijson_json.proofs.grammar.FirstBytes.{kind, kind_at, value-past_space
 use Rattle.ijson_json.proofs.reading.Numbers.{past_limit}
 use Rattle.ijson_json.proofs.errors.Places.{value_at}
 
--- ---- what stands beyond a limit
+-- ---- a text that exceeds a limit
 
--- a container is not flat
+-- The depth of a container is at least 1.
 container_deep : (t : Tree) → 4 ≤ rank t → 1 ≤ depth t
 container_deep (array is) h = omega arith
 container_deep (object ms) h = omega arith
 container_deep t h = absurd (omega (arith, h))
 
--- a bracket that opens a container begins a value, and no white space
+-- An opening bracket is neither white space nor `]`, and it begins a container.
 pub bracket_is : (b : ℕ) → (b ≡ 91) ⊎ (b ≡ 123) → (is_space b ≡ false) × ((b == 93) ≡ false) × (4 ≤ kind b)
 bracket_is b (inl e) = rw e (refl, refl, omega arith)
 bracket_is b (inr e) = rw e (refl, refl, omega arith)
 
--- a bracket where a value may begin is a container more
+-- If an opening bracket follows `before`, inside `opened` containers, the tree is deeper than
+-- `opened`.
 pub bracket_deep : (opened : ℕ) (before : List ℕ) (b : ℕ) (rest : List ℕ) (t : Tree) → IsValuePlace opened before → (b ≡ 91) ⊎ (b ≡ 123)
     → Spaced (λ value. IsValue t value) (before ++ b ∷ rest) → opened < depth t
 bracket_deep opened before b rest t i o s =
@@ -39,7 +40,7 @@ bracket_deep opened before b rest t i o s =
     let deep : 1 ≤ depth v.value = container_deep v.value (omega (arith, same, high)) in
     omega (arith, v.deep, deep)
 
--- each value at the start of the text is a number beyond the limit
+-- If `PastLimitAt` holds for a text, each value at its start is a number beyond the limit.
 value_past : (text : List ℕ) → PastLimitAt text → (t : Tree) (x : List ℕ) → Stops x → Front (λ value. IsValue t value) text x
     → is_ranged t ≡ false
 value_past text p (number n) x stops g =
@@ -53,7 +54,8 @@ value_past text p t x stops g =
     ∙ kind_at (number n) first (more ++ p.rest) text p.rest begun (record { front = f.front; holds = f.holds.1; is = f.is }) in
     absurd (omega (arith, same))
 
--- a number beyond the limit where a value may begin
+-- If a number out of range is in a JSON text where a value may begin, the tree exceeds the exponent
+-- limit.
 pub number_past : (opened : ℕ) (before rest : List ℕ) (t : Tree) → IsValuePlace opened before → IsUnread rest OutOfRange
     → Spaced (λ value. IsValue t value) (before ++ rest) → is_ranged t ≡ true → ⊥
 number_past opened before rest t i (count, front, past) s ranged =
@@ -65,7 +67,7 @@ number_past opened before rest t i (count, front, past) s ranged =
     let v = value_at opened before rest t i space other s in
     not_both (is_ranged v.value) (v.ranged ranged) (value_past rest p v.value v.behind v.stops v.front)
 
--- neither is in a text that is accepted
+-- An accepted text does not contain an opening bracket that exceeds the nesting limit.
 pub accepted_shallow : (text : List ℕ) (tree : Tree) (before : List ℕ) (b : ℕ) (rest : List ℕ) → Accepted text tree
     → text ≡ before ++ b ∷ rest → IsValuePlace max_depth before → (b ≡ 91) ⊎ (b ≡ 123) → ⊥
 accepted_shallow text tree before b rest (deepest, within, r) e i o =

@@ -1,4 +1,4 @@
--- The remaining elements of a comma-separated list, after its first elements.
+-- Lemmas about the remaining elements of a list, after its first elements.
 use Rattle.std.proofs.Common.{◌≡◌, ℕ, suc, ◌≤◌, Bool, true, false, List, [], ◌∷◌, ◌++◌, refl, sym, ◌∙◌, append_assoc, arith, ap}
 use Rattle.std.specs.Prelude.{◌&&◌, ◌==◌}
 use Rattle.ijson_value.specs.Tree.{Tree, depth}
@@ -12,7 +12,7 @@ use Rattle.ijson_json.proofs.grammar.FirstBytes.{value-past_space}
 use Rattle.ijson_json.proofs.reading.ElementLists.{deepest, all_ranged}
 use Rattle.ijson_json.proofs.reading.Elements.{Listing}
 
--- if both of two tests pass, the first passes
+-- If `a && b` is true, so is `a`.
 pub and_first : (a b : Bool) → (a && b) ≡ true → a ≡ true
 and_first true b e = refl
 and_first false b e = e
@@ -21,7 +21,7 @@ pub and_last : (a b : Bool) → (a && b) ≡ true → b ≡ true
 and_last true b e = e
 and_last false b e = absurd cc
 
--- the text begins with white space and a byte other than `closing`
+-- Holds if the first byte of `text` after white space is not `closing`.
 pub record Opening (closing : ℕ) (text : List ℕ) : Type 0 where
   pub gap : List ℕ
   pub cur : List ℕ
@@ -31,7 +31,9 @@ pub record Opening (closing : ℕ) (text : List ℕ) : Type 0 where
   pub is : text ≡ gap ++ cur
 
 module _ (E : Type 0) (S : Shape E) where
-  -- a list that goes on: its other elements, no deeper and within the limit if the list is
+  -- Holds if `text` is the remaining elements of the list `fs`, the closing bracket, then `x`.
+  --
+  -- The remaining elements are no deeper than `fs`, and within the exponent limit if `fs` is.
   pub record Others (fs : List E) (text x : List ℕ) : Type 0 where
     pub next : E
     pub more : List E
@@ -42,7 +44,7 @@ module _ (E : Type 0) (S : Shape E) where
     pub ranged : all_ranged E S fs ≡ true → all_ranged E S (next ∷ more) ≡ true
 
   module _ (same : (e f : E) → ElementSame E S e f) where
-    -- an element and its comma, and the others
+    -- If a list begins with an element and a comma, the remaining elements follow the comma.
     pub after_one : (e : E) (first text : List ℕ) (fs : List E) (i x : List ℕ) → Spaced (λ inside. S.Is e inside) first → IsList S.Is fs i
         → first ++ 44 ∷ text ≡ i ++ S.closing ∷ x → (depth (S.inner e) ≤ deepest E S fs) × Others fs text x
     after_one e first text fs i x (b, v, s, sb, w, ss, f) l g = go fs l
@@ -77,7 +79,7 @@ module _ (E : Type 0) (S : Shape E) where
             (Ends-any (S.inner e) _ (space-Stops s (44 ∷ text) ss refl)) refl refl ss refl in
             (omega (arith, ap (λ (v : E). depth (S.inner v)) q.0), behind u more a.tail a.left q.1)
 
-    -- after some elements with their commas, the text has the other elements of the list
+    -- If a list begins with elements and a comma after each, the remaining elements follow.
     pub after_each : {P : List ℕ → Type 0} {pre : List ℕ} (text : List ℕ) (fs : List E) (i x : List ℕ) → EachWithComma P pre
         → ((first : List ℕ) → P first → (e : E) × Spaced (λ inside. S.Is e inside) first) → Opening S.closing text → IsList S.Is fs i
         → pre ++ text ≡ i ++ S.closing ∷ x → Others fs text x
@@ -99,7 +101,7 @@ module _ (E : Type 0) (S : Shape E) where
           ranged = λ r. others.ranged (one.ranged r);
         }
 
-  -- the text of a list begins with its first element and the white space around it
+  -- The text of a list begins with the first element, with white space around it.
   pub first_element : (e : E) (more : List E) (inside x text : List ℕ) → IsList S.Is (e ∷ more) inside → text ≡ inside ++ S.closing ∷ x
       → (first behind : List ℕ) × Spaced (λ text. S.Is e text) first × Stops behind × (first ++ behind ≡ text)
   first_element e [] inside x text l g = (inside, S.closing ∷ x, l, S.closing-number, sym g)
@@ -107,7 +109,7 @@ module _ (E : Type 0) (S : Shape E) where
       (first, 44 ∷ (others ++ S.closing ∷ x), s, refl, rw (g, i) (simp append_assoc))
 
 module _ (E : Type 0) (S : Shape E) (L : Listing E S) where
-  -- an element of the value, with the white space around it, begins the text
+  -- Holds if `text` begins with an element of the container `t`, with white space around it.
   pub record InList (t : Tree) (text : List ℕ) : Type 0 where
     pub element : E
     pub first : List ℕ
@@ -118,7 +120,7 @@ module _ (E : Type 0) (S : Shape E) (L : Listing E S) where
     pub deep : suc (depth (S.inner element)) ≤ depth t
     pub ranged : is_ranged t ≡ true → is_ranged (S.inner element) ≡ true
 
-  -- the elements of a value that begins with the bracket
+  -- Holds if `text` is the elements of the container `t`, the closing bracket, then `behind`.
   pub record Listed (t : Tree) (text : List ℕ) : Type 0 where
     pub elements : List E
     pub inside : List ℕ
@@ -136,7 +138,8 @@ module _ (E : Type 0) (S : Shape E) (L : Listing E S) where
       let list = L.only t text (a ++ x) (record { front = v; holds = w; is = sym at.1 }) in
       record { elements = list.0; inside = list.1; behind = a ++ x; tree_is = list.2; are = list.3; is = list.4 }
 
-  -- after a bracket and some elements with their commas
+  -- If a container begins with its bracket and elements with a comma after each, the next element
+  -- follows.
   pub in_list : {P : List ℕ → Type 0} {pre : List ℕ} (t : Tree) (gap text whole x : List ℕ) → is_space L.opening ≡ false → IsSpace gap
       → EachWithComma P pre → ((first : List ℕ) → P first → (e : E) × Spaced (λ inside. S.Is e inside) first)
       → Opening S.closing text → Spaced (λ value. IsValue t value) whole → whole ++ x ≡ gap ++ L.opening ∷ (pre ++ text) → InList t text

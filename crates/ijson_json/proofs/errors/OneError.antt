@@ -1,4 +1,4 @@
--- A text has at most one error, and an accepted text has no error.
+-- Lemmas: a text has at most one error, and an accepted text has no error.
 use Rattle.std.proofs.Common.{◌≡◌, ℕ, true, List, [], ◌∷◌, ◌++◌, length, take, drop, sym, ap, subst, ◌∙◌, append_assoc, arith, inl, inr}
 use Rattle.std.proofs.lemmas.List.{take-append-drop}
 use Rattle.ijson_number.specs.NumberFront.{IsUnread}
@@ -16,7 +16,7 @@ use Rattle.ijson_json.proofs.errors.EarlierLimits.{no_deep_before, no_range_befo
 use Rattle.ijson_json.proofs.errors.Completions.{space_in_string}
 use Rattle.ijson_json.proofs.errors.CharacterPlaces.{content_at, escape_first, no_escape_before}
 
--- a bad escape is in no text that is JSON
+-- A JSON text does not contain an invalid escape.
 pub bad_escape_unread : {text : List ℕ} {at : ℕ} (b : BadEscapeAt text at) (t : Tree) → Spaced (λ value. IsValue t value) text → ⊥
 bad_escape_unread b t s =
     let content = content_at b.before (92 ∷ b.letters) t b.place (subst (λ (l : List ℕ). Spaced (λ value. IsValue t value) l) b.is s) in
@@ -30,7 +30,7 @@ accepted_has_no_error text tree (errors.TooDeep at) a e = accepted_shallow text 
 accepted_has_no_error text tree (errors.NumberRange at) a e = accepted_ranged text tree e.opened e.before e.rest a e.is e.place e.past
 accepted_has_no_error text tree errors.Memory a e = e
 
--- ---- two errors
+-- ---- two errors of one text
 
 same_deep : {text : List ℕ} {at m : ℕ} → TooDeepAt text at → TooDeepAt text m → at ≡ m
 same_deep a b = elim (overlap a.before b.before (a.bracket ∷ a.rest) (b.bracket ∷ b.rest) (sym a.is ∙ b.is)) [
@@ -50,7 +50,7 @@ same_range a b = elim (overlap a.before b.before a.rest b.rest (sym a.is ∙ b.i
   ]
 ]
 
--- a number does not begin with a bracket
+-- A number does not begin with an opening bracket.
 bracket_no_number : {text : List ℕ} {at : ℕ} (a : TooDeepAt text at) (rest : List ℕ) → a.bracket ∷ a.rest ≡ rest → IsUnread rest OutOfRange → ⊥
 bracket_no_number a rest e (count, front, past) =
     let kind = kind_at (number past.0) a.bracket a.rest rest (drop count rest) (sym e)
@@ -76,7 +76,7 @@ same_escape a b = elim (overlap a.before b.before (92 ∷ a.letters) (92 ∷ b.l
   ]
 ]
 
--- no JSON text begins with more than the bytes before the byte that stops it
+-- If a text is stuck after `a.before`, no JSON text begins with a longer beginning of that text.
 no_stop_before : {text : List ℕ} {at m : ℕ} (a : StuckAt text at) (b : StuckAt text m) → IsLonger a.before b.before a.rest b.rest → ⊥
 no_stop_before a b (c, mid, e, f) =
     let (more, tree, deepest, ranged, r) = b.begins in

@@ -1,13 +1,13 @@
--- Two beginnings of one text.
+-- Lemmas about two beginnings of one text.
 use Rattle.std.proofs.Common.{◌≡◌, ℕ, Bool, true, List, [], ◌∷◌, ◌++◌, refl, sym, ap₂, subst, inl, inr}
 use Rattle.std.specs.Prelude.{◌⊎◌}
 use Rattle.ijson_json.proofs.scanning.Prefixes.{Run, heads, tails}
 
--- the second beginning is longer than the first, after which x remains
+-- Holds if `b` is longer than `a`, where `a ++ x` and `b ++ y` are the same text.
 abbrev pub IsLonger : List ℕ → List ℕ → List ℕ → List ℕ → Type 0
 IsLonger a b x y = (c : ℕ) × (more : List ℕ) × (b ≡ a ++ c ∷ more) × (x ≡ c ∷ (more ++ y))
 
--- the two are the same, or one is longer
+-- If `a ++ x` equals `b ++ y`, then `a` equals `b`, `b` is longer, or `a` is longer.
 pub overlap : (a b x y : List ℕ) → a ++ x ≡ b ++ y → ((a ≡ b) × (x ≡ y)) ⊎ (IsLonger a b x y ⊎ IsLonger b a y x)
 overlap [] [] x y e = inl (refl, e)
 overlap [] (d ∷ b) x y e = inr (inl (d, b, refl, e))
@@ -22,12 +22,12 @@ overlap (c ∷ a) (d ∷ b) x y e =
       ])
     ]
 
--- the second of two concatenated runs is one
+-- If all bytes of `a ++ b` pass the test, so do all bytes of `b`.
 pub run_behind : (p : ℕ → Bool) (a b : List ℕ) → Run p (a ++ b) → Run p b
 run_behind p [] b h = h
 run_behind p (c ∷ a) b h = run_behind p a b h.1
 
--- if each byte of an ending passes, the last byte does
+-- If a text ends with bytes that pass the test, its last byte passes.
 pub last_passes : (p : ℕ → Bool) (a w : List ℕ) (c : ℕ) (front : List ℕ) (b : ℕ) → Run p (c ∷ w) → a ++ c ∷ w ≡ front ++ b ∷ []
     → p b ≡ true
 last_passes p a w c front b h e = elim (overlap a front (c ∷ w) (b ∷ []) e) [

@@ -1,4 +1,4 @@
--- What stands at a place in a text that is JSON.
+-- Lemmas about the value at a position in a JSON text.
 use Rattle.std.proofs.Common.{◌≡◌, ℕ, ◌+◌, ◌≤◌, true, List, [], ◌∷◌, ◌++◌, refl, sym, ap, ◌∙◌, append_assoc, append-nil, arith}
 use Rattle.std.specs.Prelude.{◌==◌}
 use Rattle.ijson_value.specs.Tree.{Tree, depth}
@@ -17,11 +17,11 @@ use Rattle.ijson_json.proofs.errors.ListParts.{Opening, in_list}
 
 -- ---- a member
 
--- a member, as the list of members has it
+-- A text that satisfies `IsMember` spells some member, with white space around it.
 pub member_pair : (first : List ℕ) → IsMember first → (m : List ℕ × Tree) × Spaced (λ pair. Pair m pair) first
 member_pair first (a, b, (k, key), (t, value), is) = ((k, t), spaced_pair k t first (a, b, key, value, is))
 
--- a key begins with a quote
+-- The first byte of a key after white space is a quote, so it is not `}`.
 pub key_opening : (key text : List ℕ) → IsKey key → Opening 125 (key ++ text)
 key_opening key text (k, (b, q, a, sb, (i, body, is), sa, f)) = record {
   gap = b;
@@ -32,7 +32,7 @@ key_opening key text (k, (b, q, a, sb, (i, body, is), sa, f)) = record {
   is = rw (f, is) (simp append_assoc);
 }
 
--- white space, a string, and white space before a byte that is not white space
+-- If two keys begin equal texts, and `:` follows each key, the texts after `:` are equal.
 string_behind : (k l p q x y : List ℕ) → Spaced (λ string. IsString k string) p → Spaced (λ string. IsString l string) q
     → p ++ 58 ∷ x ≡ q ++ 58 ∷ y → x ≡ y
 string_behind k l p q x y (b, v, a, sb, w, sa, f) (b', v', a', sb', w', sa', f') e =
@@ -44,7 +44,7 @@ string_behind k l p q x y (b, v, a, sb, w, sa, f) (b', v', a', sb', w', sa', f')
     let behind = string_same k l v v' _ _ w w' at.1 in
     tails 58 58 _ _ (run_same is_space a a' (58 ∷ x) (58 ∷ y) sa sa' refl refl behind.1.1).1
 
--- the value of a member begins behind its key and `:`
+-- The value of a member begins after the key and `:`.
 pub member_value : (m : List ℕ × Tree) (first behind key text : List ℕ) → Spaced (λ pair. Pair m pair) first → IsKey key
     → first ++ behind ≡ key ++ 58 ∷ text → (value : List ℕ) × Spaced (λ value. IsValue m.1 value) value × (value ++ behind ≡ text)
 member_value m first behind key text s (k, p) e =
@@ -54,7 +54,7 @@ member_value m first behind key text s (k, p) e =
 
 -- ---- a value inside containers
 
--- a text that begins inside a container does not begin with `]`
+-- If the part inside the innermost container does not begin with `]`, neither does the whole text.
 pub inside_opening : {P : List ℕ → Type 0} {opened : ℕ} {before : List ℕ} → Inside P opened before → (rest : List ℕ)
     → ((last : List ℕ) → P last → Opening 93 (last ++ rest)) → Opening 93 (before ++ rest)
 inside_opening (here {text} p) rest starts = starts text p
@@ -63,7 +63,8 @@ inside_opening (in_array gap sg each i) rest starts =
 inside_opening (in_object gap key sg each k i) rest starts =
     record { gap = gap; cur = 123 ∷ (_ ++ rest); space = sg; past = refl; other = refl; is = append_assoc gap (123 ∷ _) rest }
 
--- the value that begins there, with the white space around it
+-- Holds if `last ++ rest` begins with a value that is inside `opened` containers of `t`, and
+-- `P last` holds.
 pub record Descends (P : List ℕ → Type 0) (opened : ℕ) (t : Tree) (rest : List ℕ) : Type 0 where
   pub last : List ℕ
   pub is_last : P last
@@ -125,7 +126,7 @@ descends (in_object gap key {members} {inside} sg each k i) rest starts t whole 
       ranged = λ r. d.ranged (l.ranged r);
     }
 
--- the value that begins at the place of a value
+-- Holds if `rest` begins with a value that is inside `opened` containers of `t`.
 pub record ValueAt (opened : ℕ) (t : Tree) (rest : List ℕ) : Type 0 where
   pub value : Tree
   pub behind : List ℕ

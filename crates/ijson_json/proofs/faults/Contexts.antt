@@ -1,4 +1,5 @@
--- Contexts: of a whole text, of the elements of an array or object, and of the value of a member.
+-- Lemmas: the contexts of a whole text, of an element of an array or object, and of the value of a
+-- member.
 use Rattle.std.proofs.Common.{◌≡◌, ℕ, ◌+◌, ◌≤◌, true, List, [], ◌∷◌, ◌++◌, refl, sym, ap, ap₂, subst, ◌∙◌, append_assoc, append-nil, arith}
 use Rattle.std.specs.Prelude.{◌&&◌}
 use Rattle.ijson_value.specs.Tree.{Tree, null, depth}
@@ -21,14 +22,14 @@ use Rattle.ijson_json.proofs.reading.Elements.{Listing, Reached}
 use Rattle.ijson_json.proofs.reading.Members.{key_again, value_of}
 use Rattle.ijson_json.proofs.faults.StuckTexts.{MayPause}
 
--- more white space before a text
+-- Adding white space before a spaced text yields a spaced text.
 pub spaced_more : {P : List ℕ → Type 0} (space text : List ℕ) → IsSpace space → Spaced P text → Spaced P (space ++ text)
 spaced_more space text h (b, v, a, sb, w, sa, e) =
     (space ++ b, v, a, all-append _ space b h sb, w, sa, rw e (sym (append_assoc space b (v ++ a))))
 
--- ---- texts that a context builds
+-- ---- JSON texts that complete a context
 
--- a value within the limits builds a text that is accepted
+-- If `Built` holds for a value within the limits, the text is accepted.
 pub built_accepted : {opened : ℕ} {value : Tree} {text : List ℕ} → Built opened value text → opened + depth value ≤ max_depth
     → is_ranged value ≡ true → (tree : Tree) × Accepted text tree
 built_accepted b deep ranged = (
@@ -40,7 +41,7 @@ built_accepted b deep ranged = (
   ),
 )
 
--- white space may follow where a value may begin
+-- If a value may begin after `before`, a space may follow `before`.
 pub value_pause : {opened : ℕ} {before text : List ℕ} → ValueContext opened before text → MayPause before
 value_pause c =
     let b = c.builds null (32 ∷ null_text) (32 ∷ [], null_text, [], (refl, tt), refl, tt, refl) in
@@ -49,7 +50,7 @@ value_pause c =
 
 -- ---- a whole text
 
--- a value after the white space of a whole text
+-- After the leading white space of a text, `ValueContext` holds with 0 open containers.
 pub text_context : (text start : List ℕ) (s : Skips text start) → ValueContext 0 s.space start
 text_context text start s = record {
   within = omega arith;
@@ -72,7 +73,7 @@ text_context text start s = record {
 
 module _ {E : Type 0} {S : Shape E} {L : Listing E S} {opened : ℕ} {text cur : List ℕ} {found : List E}
     (r : Reached E S L opened text found cur) {before : List ℕ} (c : ValueContext opened before text) where
-  -- the text continues after the elements
+  -- A text that begins with the elements that were read begins with the same byte as `text`.
   element_starts : (next : List ℕ) → StartsAs text (r.head ++ next)
   element_starts next =
       subst (λ (l : List ℕ). StartsAs l (r.head ++ next)) (sym (r.is ∙ ap (λ (l : List ℕ). l ++ cur) r.head_is))
@@ -112,7 +113,7 @@ module _ {k text cur : List ℕ} (r : KeyRead k text cur) {opened : ℕ} {before
   abbrev head : List ℕ
   head = r.key ++ (r.gap ++ 58 ∷ r.gap')
 
-  -- the text begins with the key
+  -- A text that begins with the key that was read begins with the same byte as `text`.
   key_starts : (next : List ℕ) → StartsAs text (head ++ next)
   key_starts next =
       let (i, body, e) = r.is_key in

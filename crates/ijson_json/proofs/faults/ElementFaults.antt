@@ -1,4 +1,4 @@
--- A fault in an element, or after one, is a fault of the array or object.
+-- Lemmas: a fault in or after an element is a fault of the array or object.
 use Rattle.std.proofs.Common.{◌≡◌, ℕ, ◌+◌, List, [], ◌∷◌, ◌++◌, length, refl, sym, ap, subst, ◌∙◌, append_assoc, arith, inl, inr}
 use Rattle.std.specs.Prelude.{◌⊎◌, Result, Ok, Err, MatchResult, IfErr}
 use Rattle.std.proofs.lemmas.List.{length-append}
@@ -18,7 +18,7 @@ use Rattle.ijson_json.proofs.faults.Contexts.{built_accepted, element_context, v
 use Rattle.ijson_json.proofs.faults.ScalarFaults.{memory_fault}
 use Rattle.ijson_json.proofs.faults.StuckTexts.{MayPause, IsStuckAfter, fault_of, pause_begins, stuck_error}
 
--- a bracket that opens a container at the maximum depth is the error of the text
+-- If the maximum number of containers is open, the fault of an opening bracket is `TooDeep`.
 pub bracket_too_deep : (opened : ℕ) (text inside : List ℕ) (bracket : ℕ) → text ≡ bracket ∷ inside → (bracket ≡ 91) ⊎ (bracket ≡ 123)
     → opened ≡ max_depth → Explains opened text (faults.TooDeep (length text))
 bracket_too_deep opened text inside bracket e opens deep before c memory = record {
@@ -34,11 +34,11 @@ bracket_too_deep opened text inside bracket e opens deep before c memory = recor
 
 module _ {E : Type 0} {S : Shape E} {L : Listing E S} {opened : ℕ} {text cur : List ℕ} {found : List E}
     (r : Reached E S L opened text found cur) where
-  -- the whole text continues with the rest
+  -- The part of the text that was read and the unread part `cur` are the whole text.
   whole : (before : List ℕ) → (before ++ r.head) ++ cur ≡ before ++ text
   whole before = append_assoc before r.head cur ∙ ap (λ (l : List ℕ). before ++ l) (sym r.is)
 
-  -- a fault in an element is one of the whole
+  -- A fault in an element is a fault of the array or object.
   pub element_fault : (fault : Fault)
       → ((before : List ℕ) → Context E (λ e text. S.Is e text) (λ e. S.inner e) L.IsPlace (opened + 1) before cur
       → RejectsBy (before ++ cur) fault)
@@ -54,7 +54,7 @@ module _ {E : Type 0} {S : Shape E} {L : Listing E S} {opened : ℕ} {text cur :
     seen_text =
         r.is ∙ ap (λ (l : List ℕ). r.head ++ l) (d.found.is ∙ ap (λ (l : List ℕ). d.found.front ++ l) s.skipped.is) ∙ simp append_assoc
 
-    -- a space may follow the element
+    -- A space may follow the last element that was read.
     after_pause : {before : List ℕ} → ValueContext opened before text → MayPause (before ++ seen)
     after_pause {before} c =
         let e = element_context r c in
@@ -81,13 +81,14 @@ module _ {E : Type 0} {S : Shape E} {L : Listing E S} {opened : ℕ} {text cur :
               ap (λ (l : List ℕ). (l ++ (d.found.front ++ s.skipped.space)) ++ next) r.head_is,
             )
 
-  -- a fault after an element, or a failure to store it, is a fault of the array or object
+  -- A fault after an element, or a failure to store the element, is a fault of the array or object.
   pub push_fault : {t : E} {after : List ℕ} (fault : Fault) → ElementRead E S (opened + 1) cur t after
       → (fault ≡ faults.Memory) ⊎ NoDelimiter S.closing after fault → Explains opened text fault
   push_fault fault d (inl e) = rw e (λ before c. memory_fault (before ++ text))
   push_fault fault d (inr (left, stuck, e)) = rw e (delimiter_fault d stuck)
 
--- the faults after an element
+-- If reading the delimiter after an element fails, the fault is `Memory` or satisfies
+-- `NoDelimiter`.
 pub behind_element : {X : Type 0} (closing : ℕ) (after : List ℕ) (r : Result X Fault) (P : X → Type 0)
     → MatchResult r P (λ fault. NoDelimiter closing after fault)
     → IfErr r (λ fault. (fault ≡ faults.Memory) ⊎ NoDelimiter closing after fault)

@@ -1,4 +1,4 @@
--- A fault in a key, or in the value of a member, is one of the member.
+-- Lemmas: a fault in the key or the value of a member is a fault of the member.
 use Rattle.std.proofs.Common.{◌≡◌, ℕ, List, [], ◌∷◌, ◌++◌, length, refl, sym, ap, subst, ◌∙◌, append_assoc, append-nil, arith, inl, inr}
 use Rattle.std.specs.Prelude.{◌==◌}
 use Rattle.ijson_value.specs.Tree.{Tree, null}
@@ -23,24 +23,25 @@ use Rattle.ijson_json.proofs.faults.ScalarFaults.{memory_fault}
 use Rattle.ijson_json.proofs.faults.StringFaults.{content_error}
 use Rattle.ijson_json.proofs.faults.StuckTexts.{MayPause, IsStuckAfter, fault_of, stuck_error}
 
--- a fault in the string of a key is one of the key
+-- A fault in the string of a key is a fault of the key.
 pub string_key : (text : List ℕ) (fault : Fault) → StringFault text fault → KeyFault text fault
 string_key text (faults.Syntax left) h = inl h
 string_key text faults.Memory h = tt
 string_key text fault h = absurd h
 
 module _ {opened : ℕ} {before text : List ℕ} (c : MemberContext opened before text) where
-  -- a space may follow white space before a member, characters of a key, or a key, if some bytes complete a member after it
+  -- If `written`, a space and more bytes are a member with the value `null`, a space may follow
+  -- `written`.
   member_pause : (k written more : List ℕ) → Spaced (λ pair. Pair (k, null) pair) (written ++ 32 ∷ more) → MayPause (before ++ written)
   member_pause k written more s =
       let (tree, accepted) = built_accepted (c.builds (k, null) (written ++ 32 ∷ more) s) (omega (arith, c.within)) refl in
       record { more = more ++ c.closers; tree = tree; accepted = simp append_assoc (simp append_assoc at accepted) }
 
-  -- a key, `:` and null
+  -- A key, `:` and `null` are a member.
   null_member : (k key : List ℕ) → Spaced (λ string. IsString k string) key → Spaced (λ pair. Pair (k, null) pair) (key ++ 58 ∷ null_text)
   null_member k key s = spaced_pair k null (key ++ 58 ∷ null_text) (key, null_text, s, ([], null_text, [], tt, refl, tt, refl), refl)
 
-  -- a member begins with a quote
+  -- If a text does not begin with a quote where a member may begin, it has a syntax error there.
   quote_fault : (left : ℕ) → left ≡ length text → Past (λ b. b == 34) text → RejectsBy (before ++ text) (faults.Syntax left)
   quote_fault left e p = fault_of before text left refl e (stuck_error before text refl
       (λ t next starts s.
@@ -51,7 +52,7 @@ module _ {opened : ℕ} {before text : List ℕ} (c : MemberContext opened befor
       (member_pause [] [] (34 ∷ 34 ∷ 58 ∷ null_text)
       (null_member [] (32 ∷ 34 ∷ 34 ∷ []) (32 ∷ [], 34 ∷ 34 ∷ [], [], (refl, tt), ([], empty, refl), tt, refl)))))
 
-  -- after an opening quote and some characters of a key
+  -- A character may begin after the opening quote and complete characters of a key.
   key_place : (body s : List ℕ) → StringBody body s → IsCharacterPlace (before ++ 34 ∷ body)
   key_place body s h = (
     c.place.0,
@@ -73,7 +74,7 @@ module _ {opened : ℕ} {before text : List ℕ} (c : MemberContext opened befor
       let key = null_member (s ++ 32 ∷ []) string ([], string, [], tt, (body ++ 32 ∷ [], body-push h (unescaped refl), refl), tt, sym (append-nil string)) in
       member_pause (s ++ 32 ∷ []) (34 ∷ body) (34 ∷ 58 ∷ null_text) (simp append_assoc at key)
 
-  -- the string of a key stops
+  -- If the content of a key stops, the text has a syntax error there.
   content_fault : (inside : List ℕ) (left : ℕ) → text ≡ 34 ∷ inside → ContentStops inside left
       → RejectsBy (before ++ text) (faults.Syntax left)
   content_fault inside left e s =
@@ -83,7 +84,7 @@ module _ {opened : ℕ} {before text : List ℕ} (c : MemberContext opened befor
       (content_error (before ++ 34 ∷ s.body) s.rest is (key_place s.body s.meant s.is_body) (key_pause s.body s.meant s.is_body)
       s.unclosed s.no_character)
 
-  -- no `:` follows the key
+  -- If `:` does not follow a key, the text has a syntax error there.
   colon_fault : (left : ℕ) → ColonStops text left → RejectsBy (before ++ text) (faults.Syntax left)
   colon_fault left h =
       let key = h.found.front in
@@ -102,7 +103,7 @@ module _ {opened : ℕ} {before text : List ℕ} (c : MemberContext opened befor
       (stuck_error (before ++ seen) h.rest is none
       (member_pause h.key seen (58 ∷ null_text) (simp append_assoc (simp append_assoc at pair))))
     where
-      -- the text begins with the quote of the key
+      -- A text that begins with the key that was read begins with the same byte as `text`.
       key_starts : (next : List ℕ) → StartsAs text ((h.found.front ++ h.skipped.space) ++ next)
       key_starts next =
           let (body, b, i) = h.found.holds in
@@ -122,7 +123,7 @@ module _ {opened : ℕ} {before text : List ℕ} (c : MemberContext opened befor
           (starts_past is_space h.rest next starts h.skipped.past) refl e.1.1 in
           past_byte 58 next _ (starts_past (λ b. b == 58) h.rest next starts h.no_colon) g.1
 
--- a fault in a key is one of the member
+-- A fault in the key is a fault of the member.
 pub key_fault : (opened : ℕ) (text : List ℕ) (fault : Fault) → KeyFault text fault → ExplainsMember opened text fault
 key_fault opened text (faults.Syntax left) (inl (inl (e, p))) before c = quote_fault c left e p
 key_fault opened text (faults.Syntax left) (inl (inr (inside, e, s))) before c = content_fault c inside left e s
@@ -130,7 +131,7 @@ key_fault opened text (faults.Syntax left) (inr h) before c = colon_fault c left
 key_fault opened text faults.Memory h before c = memory_fault (before ++ text)
 key_fault opened text fault h before c = absurd h
 
--- a fault in the value is one of the member
+-- A fault in the value is a fault of the member.
 pub member_fault : {k text cur : List ℕ} (r : KeyRead k text cur) (opened : ℕ) (fault : Fault) → Explains opened cur fault
     → ExplainsMember opened text fault
 member_fault {text = text} {cur = cur} r opened fault h before c =

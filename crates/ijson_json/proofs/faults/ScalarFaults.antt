@@ -1,4 +1,4 @@
--- A fault in a value that is no container is the error of each text in which it is.
+-- Lemmas: a fault in a value that is not a container is the error of each text with this value.
 use Rattle.std.proofs.Common.{◌≡◌, ℕ, ◌≤◌, true, false, List, [], ◌∷◌, ◌++◌, length, refl, sym, ap, ◌∙◌, append_assoc, arith, inl, inr}
 use Rattle.std.specs.Prelude.{Result, Ok, Err, nat_lt}
 use Rattle.std.specs.Borrow.{Bor}
@@ -32,24 +32,25 @@ use Rattle.ijson_json.proofs.faults.StringFaults.{content_error}
 use Rattle.ijson_json.proofs.faults.StuckTexts.{MayPause, fault_of, pause_begins, stuck_error}
 use Rattle.ijson_json.proofs.faults.TokenFaults.{number_fault, word_fault}
 
--- the first byte of a text
+-- If the first byte of a text is `b`, the text is `b` and the rest.
 pub begins : (b : ℕ) (text : List ℕ) (first : ℕ) (more : List ℕ) → text ≡ first ∷ more → first ≡ b → text ≡ b ∷ more
 begins b text first more e f = e ∙ ap (λ (c : ℕ). c ∷ more) f
 
--- a lack of memory is never the error of a text
+-- `RejectsBy` holds for the fault `Memory`.
 pub memory_fault : (text : List ℕ) → RejectsBy text faults.Memory
 memory_fault text memory = absurd (memory refl)
 
 pub out_of_memory : (opened : ℕ) (text : List ℕ) → Explains opened text faults.Memory
 out_of_memory opened text before c = memory_fault (before ++ text)
 
--- ---- a byte that begins no value
+-- ---- a byte that does not begin a value
 
--- a byte from 128 on begins no value
+-- A byte from 128 on does not begin a value.
 low_kind : (b : ℕ) → nat_lt b 128 ≡ false → kind b ≡ 6
 low_kind b h = grind (arith, nat_tests)
 
--- each value begins with an ASCII byte
+-- If a text is empty or does not begin with an ASCII byte, reading a value fails at the start of
+-- the text.
 pub no_character : (opened : ℕ) (text : List ℕ) → Past (λ b. nat_lt b 128) text → Explains opened text (faults.Syntax (length text))
 no_character opened text p before c =
     fault_of before text (length text) refl refl (stuck_error before text refl (λ t next starts s.
@@ -62,7 +63,7 @@ no_character opened text p before c =
 -- ---- a string
 
 module _ {opened : ℕ} {before text : List ℕ} (c : ValueContext opened before text) where
-  -- after an opening quote and some characters
+  -- A character may begin after the opening quote and complete characters of a string.
   string_place : (body s : List ℕ) → StringBody body s → IsCharacterPlace (before ++ 34 ∷ body)
   string_place body s h = (opened, inside_append (34 ∷ body) c.place (λ last gap. inl (last, body, s, gap, h, refl)))
 
@@ -74,7 +75,7 @@ module _ {opened : ℕ} {before text : List ℕ} (c : ValueContext opened before
       let (tree, accepted) = built_accepted b (omega (arith, c.within)) refl in
       record { more = 34 ∷ c.closers; tree = tree; accepted = simp append_assoc (simp append_assoc at accepted) }
 
-  -- a string that stops is the error of the text
+  -- If the content of a string stops, the text has a syntax error there.
   pub string_fault : (inside : List ℕ) (left : ℕ) → text ≡ 34 ∷ inside → ContentStops inside left
       → RejectsBy (before ++ text) (faults.Syntax left)
   string_fault inside left e s =
@@ -84,7 +85,7 @@ module _ {opened : ℕ} {before text : List ℕ} (c : ValueContext opened before
       (content_error (before ++ 34 ∷ s.body) s.rest is (string_place s.body s.meant s.is_body) (string_pause s.body s.meant s.is_body)
       s.unclosed s.no_character)
 
--- a fault in the string of a value
+-- A fault in a string is a fault of the value.
 quoted_fault : (opened : ℕ) (text more : List ℕ) (fault : Fault) → text ≡ 34 ∷ more → StringFault text fault → Explains opened text fault
 quoted_fault opened text more (faults.Syntax left) e (inl (is, p)) before c = absurd (past_byte 34 text more p e)
 quoted_fault opened text more (faults.Syntax left) e (inr (inside, is, s)) before c = string_fault c inside left is s
@@ -93,7 +94,7 @@ quoted_fault opened text more fault e h before c = absurd h
 
 -- ---- any scalar
 
--- a fault in a number
+-- A fault in a number is a fault of the value.
 other_fault : (opened : ℕ) (text : List ℕ) (first : ℕ) (more : List ℕ) (fault : Fault) → text ≡ first ∷ more
     → IsApart first → NumberFault text fault → Explains opened text fault
 other_fault opened text first more (faults.Syntax left) e apart h before c = number_fault c first more e apart h
@@ -123,7 +124,7 @@ scalar_fault opened text fault (first, more, e, inr (inr (inr (inl h)))) before 
 scalar_fault opened text fault (first, more, e, inr (inr (inr (inr h)))) before c =
     other_fault opened text first more fault e h.0 h.1 before c
 
--- reading a scalar is reading a value
+-- If `ReadsScalar` holds and the stacks in the scratch are unchanged, `ReadsValue` holds.
 pub scalar_read : (opened : ℕ) (text : List ℕ) (result : Result (WellFormed × Bor (List ℕ)) Fault) (old new : Texts)
     (before after : Scratch) → opened ≤ max_depth → after.values.items ≡ before.values.items → after.members.items ≡ before.members.items
     → ReadsScalar text result old new → ReadsValue opened text result old new before after

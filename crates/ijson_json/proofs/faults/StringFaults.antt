@@ -1,4 +1,4 @@
--- A string, of a value or a key, that stops to be one.
+-- Lemmas about a string, of a value or a key, whose content stops.
 use Rattle.std.proofs.Common.{◌≡◌, ℕ, true, false, List, [], ◌∷◌, ◌++◌, length, eqb, refl, sym, ap, subst, ◌∙◌, append_assoc}
 use Rattle.std.specs.Prelude.{◌≢◌}
 use Rattle.std.proofs.lemmas.Bool.{eqb-true}
@@ -13,7 +13,8 @@ use Rattle.ijson_json.proofs.reading.StringContent.{character_bytes}
 use Rattle.ijson_json.proofs.errors.CharacterPlaces.{HasContent, content_at}
 use Rattle.ijson_json.proofs.faults.StuckTexts.{MayPause, stuck_error, escape_error}
 
--- no content of a string begins with a byte that is neither a quote, nor a backslash, nor a character
+-- If the rest of a string begins with `b`, then `b` is a quote, a backslash or the first byte of a
+-- character.
 no_content : (b : ℕ) (more next : List ℕ) → eqb b 92 ≡ false → ((behind : List ℕ) → b ∷ more ≢ 34 ∷ behind) → NoCharacter (b ∷ more)
     → HasContent (b ∷ next) → ⊥
 no_content b more next other unclosed none (s, rest, (body, h, e)) = go h e
@@ -27,7 +28,7 @@ no_content b more next other unclosed none (s, rest, (body, h, e)) = go h e
     go empty e = unclosed more (ap (λ (c : ℕ). c ∷ more) (heads _ _ _ _ e))
     go (one_more {written} {body = others} c h) e = first (others ++ 34 ∷ rest) c (e ∙ append_assoc written others (34 ∷ rest))
 
--- content has a quote
+-- The rest of a string is not empty.
 no_bytes : HasContent [] → ⊥
 no_bytes (s, rest, (body, h, e)) = go h e
   where
@@ -36,7 +37,7 @@ no_bytes (s, rest, (body, h, e)) = go h e
     go (one_more {written} {body = others} c h) e =
         character_bytes (others ++ 34 ∷ rest) c (e ∙ append_assoc written others (34 ∷ rest))
 
--- the error of a text whose string stops: at the backslash of a bad escape, or where neither a character nor a quote follows
+-- If neither a character nor a quote follows `seen` in a string, the text has a syntax error there.
 pub content_error : {text : List ℕ} (seen rest : List ℕ) → text ≡ seen ++ rest → IsCharacterPlace seen → MayPause seen
     → ((behind : List ℕ) → rest ≢ 34 ∷ behind) → NoCharacter rest → IsErrorOf text (errors.Syntax (length seen))
 content_error seen [] is place pause unclosed none =

@@ -1,4 +1,4 @@
--- A text that stops being JSON, without an earlier error: its error is at the first byte with which no JSON text continues.
+-- Lemmas: if a text stops being JSON, its error is at the first byte that no JSON text has there.
 use Rattle.std.proofs.Common.{◌≡◌, ℕ, ◌+◌, ◌-◌, ◌<◌, true, List, [], ◌∷◌, ◌++◌, length, take, drop, refl, sym, ap, subst, ◌∙◌, append_assoc, append-nil, arith, inl, inr}
 use Rattle.std.specs.Prelude.{◌⊎◌}
 use Rattle.std.proofs.Math.Seq.{take-append_seam}
@@ -27,21 +27,22 @@ use Rattle.ijson_json.proofs.errors.LimitErrors.{accepted_ranged}
 use Rattle.ijson_json.proofs.errors.EarlierLimits.{no_deep_before}
 use Rattle.ijson_json.proofs.errors.CharacterPlaces.{no_escape_before}
 
--- some text within the limits continues with a space after these bytes
+-- Holds if some accepted text begins with `seen` and a space.
 pub record MayPause (seen : List ℕ) : Type 0 where
   pub more : List ℕ
   pub tree : Tree
   pub accepted : Accepted (seen ++ 32 ∷ more) tree
 
--- no JSON text continues after these bytes with the first byte of the rest, or ends there if the rest is empty
+-- Holds if no JSON text continues after `seen` with the first byte of `rest`. If `rest` is empty,
+-- no JSON text ends after `seen`.
 abbrev pub IsStuckAfter : List ℕ → List ℕ → Type 0
 IsStuckAfter seen rest = (t : Tree) (next : List ℕ) → StartsAs rest next → Spaced (λ value. IsValue t value) (seen ++ next) → ⊥
 
--- bytes that may be followed by a space begin a text within the limits
+-- If a space may follow `seen`, some accepted text begins with `seen`.
 pub pause_begins : {seen : List ℕ} → MayPause seen → BeginsWithin seen
 pause_begins p = (32 ∷ p.more, p.tree, p.accepted)
 
--- a space and more bytes complete bytes that may be followed by a space
+-- If a space may follow `seen`, some bytes extend `seen` and a space to a JSON text.
 pause_completed : {seen : List ℕ} → MayPause seen → IsCompleted (seen ++ 32 ∷ [])
 pause_completed {seen} p =
     let r = p.accepted.2 in (
@@ -50,7 +51,7 @@ pause_completed {seen} p =
       subst (λ (l : List ℕ). Spaced (λ value. IsValue r.written value) l) (sym (append_assoc seen (32 ∷ []) p.more)) r.spelled,
     )
 
--- no JSON text begins with more than the bytes after which the text is stuck
+-- If a text is stuck after `seen`, no JSON text begins with a longer beginning of that text.
 none_longer : (seen rest : List ℕ) → IsStuckAfter seen rest → (longer more y : List ℕ) (t : Tree) → IsLonger seen longer rest y
     → Spaced (λ value. IsValue t value) (longer ++ more) → ⊥
 none_longer seen rest none longer more y t (c, mid, e, f) s =
@@ -58,17 +59,17 @@ none_longer seen rest none longer more y t (c, mid, e, f) s =
     (subst (λ (l : List ℕ). Spaced (λ value. IsValue t value) l)
     (ap (λ (l : List ℕ). l ++ more) e ∙ append_assoc seen (c ∷ mid) more) s)
 
--- more than these bytes cannot be completed
+-- If a text is stuck after `seen`, no bytes extend a longer beginning of that text to a JSON text.
 pub none_completed : (seen rest : List ℕ) → IsStuckAfter seen rest → (longer y : List ℕ) → IsLonger seen longer rest y
     → IsCompleted longer → ⊥
 none_completed seen rest none longer y l (closing, t, s) = none_longer seen rest none longer closing y t l s
 
--- more than these bytes begin no text within the limits
+-- If a text is stuck after `seen`, no accepted text begins with a longer beginning of that text.
 pub none_begins : (seen rest : List ℕ) → IsStuckAfter seen rest → (longer y : List ℕ) → IsLonger seen longer rest y
     → BeginsWithin longer → ⊥
 none_begins seen rest none longer y l (more, tree, (deepest, within, r)) = none_longer seen rest none longer more y r.written l r.spelled
 
--- where a character of a string may begin, a space completes the text
+-- If a character of a string may begin after `before`, some bytes extend `before` to a JSON text.
 pub place_completed : (before : List ℕ) → IsCharacterPlace before → IsCompleted before
 place_completed before place =
     let (closing, t, s) = space_in_string before place in
@@ -76,14 +77,17 @@ place_completed before place =
 
 -- ---- a number beyond the limit
 
--- one byte more than a number
+-- The first `length front + 1` bytes of `front ++ c ∷ z` are `front` and `c`.
 take_one : (front : List ℕ) (c : ℕ) (z : List ℕ) → take (length front + 1) (front ++ c ∷ z) ≡ front ++ c ∷ []
 take_one front c z =
     let one : length (front ++ c ∷ []) ≡ length front + 1 = omega (arith, length-append front (c ∷ [])) in
     ap (λ (k : ℕ). take k (front ++ c ∷ z)) (sym one) ∙ ap (take (length (front ++ c ∷ []))) (sym (append_assoc front (c ∷ []) z))
     ∙ take-append_seam (front ++ c ∷ []) z
 
--- the number at the start of a text, followed by a byte that is in no number, or by the same byte as in the text
+-- `number` is the longest prefix of `text` that begins a number, followed by other text `z`.
+--
+-- `z` begins with the same byte as the text after `number`, or does not begin with a byte of a
+-- number.
 module _ (text : List ℕ) (count : ℕ) (f : IsNumberFront text count) where
   abbrev number : List ℕ
   number = take count text
@@ -97,7 +101,8 @@ module _ (text : List ℕ) (count : ℕ) (f : IsNumberFront text count) where
   one_more : (c : ℕ) (z : List ℕ) → take (count + 1) (number ++ c ∷ z) ≡ number ++ c ∷ []
   one_more c z = ap (λ (k : ℕ). take (k + 1) (number ++ c ∷ z)) (sym number_length) ∙ take_one number c z
 
-  -- no number begins with this one and the byte after it
+  -- If `c` follows the longest prefix of a text that begins a number, no number begins with this
+  -- prefix and `c`.
   pub ends_there : (c : ℕ) (z : List ℕ) → drop count text ≡ c ∷ z → BeginsNumber (take count text ++ c ∷ []) → ⊥
   ends_there c z e more =
       let whole : text ≡ number ++ c ∷ z = sym (take-append-drop count text) ∙ ap (λ (l : List ℕ). number ++ l) e in
@@ -120,7 +125,7 @@ module _ (text : List ℕ) (count : ℕ) (f : IsNumberFront text count) where
           let same : c ≡ d = heads c d z w s in
           ends_there d rest e (rw same at (subst BeginsNumber (one_more c z) more))
 
-  -- such a number is beyond the limit wherever it is
+  -- If the number at the start of `text` is out of range, it is out of range before `z`.
   pub unread_again : IsPastLimit (take count text) → (z : List ℕ) → Stops z ⊎ StartsAs (drop count text) z
       → IsUnread (take count text ++ z) OutOfRange
   unread_again past z h = (
@@ -133,11 +138,11 @@ module _ (text : List ℕ) (count : ℕ) (f : IsNumberFront text count) where
     subst IsPastLimit (sym (taken z)) past,
   )
 
--- the bytes up to the end of the number
+-- The bytes of a text up to the end of a number out of range.
 abbrev pub number_end : {text : List ℕ} {at : ℕ} → OutOfRangeAt text at → List ℕ
 number_end a = a.before ++ take a.past.0 a.rest
 
--- no text within the limits has the number at its place, followed by a byte that is in no number or by the same byte
+-- A text that begins with `number_end a` and does not continue the number is not accepted.
 past_accepted : {text : List ℕ} {at : ℕ} (a : OutOfRangeAt text at) (z : List ℕ) (tree : Tree) → Stops z ⊎ StartsAs (drop a.past.0 a.rest) z
     → Accepted (number_end a ++ z) tree → ⊥
 past_accepted a z tree h accepted =
@@ -145,7 +150,7 @@ past_accepted a z tree h accepted =
     accepted_ranged (number_end a ++ z) tree a.opened a.before (take count a.rest ++ z) accepted
     (append_assoc a.before (take count a.rest) z) a.place (unread_again a.rest count front past z h)
 
--- if a space may follow the first bytes of the text, a number beyond the limit that begins in them ends after them
+-- If a space may follow `seen`, each number out of range ends after `seen`.
 pub no_range_seen : {text : List ℕ} {at : ℕ} (a : OutOfRangeAt text at) (seen rest : List ℕ) → text ≡ seen ++ rest → MayPause seen
     → (IsLonger seen (number_end a) rest (drop a.past.0 a.rest) → ⊥) → ⊥
 no_range_seen a seen rest is pause longer =
@@ -167,15 +172,16 @@ no_range_seen a seen rest is pause longer =
       ]
     ]
 
--- ---- a text that stops
+-- ---- a text that stops being JSON
 
--- a backslash may be escaped
+-- The escape of a backslash spells a backslash.
 backslash : Character (92 ∷ 92 ∷ []) (92 ∷ [])
 unfolding short_escape
 backslash = short refl
 
 module _ {text : List ℕ} (seen rest : List ℕ) (is : text ≡ seen ++ rest) (none : IsStuckAfter seen rest) where
-  -- no reading of the text, and none begins with one byte more
+  -- If a text is stuck after `seen`, and some JSON text begins with `seen`, `StuckAt` holds after
+  -- `seen`.
   pub stuck_at : Begins seen → StuckAt text (length seen)
   stuck_at begins = record {
     before = seen;
@@ -223,19 +229,20 @@ module _ {text : List ℕ} (seen rest : List ℕ) (is : text ≡ seen ++ rest) (
       ]
     ]
 
-    -- a text that is stuck after these bytes has its error of syntax there
+    -- If a text is stuck after `seen`, and a space may follow `seen`, its error is a syntax error
+    -- after `seen`.
     pub stuck_error : IsErrorOf text (errors.Syntax (length seen))
     stuck_error =
         let (deepest, within, r) = pause.accepted in
         (no_deep, no_range, inr (stuck_at (32 ∷ pause.more, pause.tree, deepest, true, r), no_escape))
 
--- the offset of a fault, from how many bytes are left
+-- If `rest` is left, a syntax fault becomes the syntax error at the offset after `seen`.
 pub fault_of : {text : List ℕ} (seen rest : List ℕ) (left : ℕ) → text ≡ seen ++ rest → left ≡ length rest
     → IsErrorOf text (errors.Syntax (length seen)) → RejectsBy text (faults.Syntax left)
 fault_of {text} seen rest left is e error memory =
     let at : length text - left ≡ length seen = omega (arith, ap length is, length-append seen rest, e) in rw at error
 
--- ---- a bad escape
+-- ---- an invalid escape
 
 module _ {text : List ℕ} (before letters : List ℕ) (is : text ≡ before ++ 92 ∷ letters) (place : IsCharacterPlace before)
     (pause : MayPause before) (none : NoCharacter (92 ∷ letters)) where
@@ -262,7 +269,7 @@ module _ {text : List ℕ} (before letters : List ℕ) (is : text ≡ before ++ 
     ]
   ]
 
-  -- a backslash is in no number
+  -- A backslash is not inside a number out of range.
   outside_number : {m : ℕ} (a : OutOfRangeAt text m) (z : List ℕ) → before ≡ a.before ++ z
       → IsLonger before (number_end a) (92 ∷ letters) (drop a.past.0 a.rest) → ⊥
   outside_number a z e (c, mid, f, g) =
@@ -281,6 +288,6 @@ module _ {text : List ℕ} (before letters : List ℕ) (is : text ≡ before ++ 
     ]
   ]
 
-  -- the error of the text is at the backslash
+  -- The error of a text with an invalid escape is a syntax error at the backslash.
   pub escape_error : IsErrorOf text (errors.Syntax (length before))
   escape_error = (no_deep_escape, no_range_escape, inl bad)

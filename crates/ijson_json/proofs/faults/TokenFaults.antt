@@ -1,4 +1,4 @@
--- A number or a word that stops to be one.
+-- Lemmas about a number or a word (`null`, `true` or `false`) that stops before its end.
 use Rattle.std.proofs.Common.{◌≡◌, ℕ, ◌+◌, ◌-◌, ◌≤◌, Bool, true, List, [], ◌∷◌, ◌++◌, length, take, drop, refl, sym, ap, subst, ◌∙◌, append_assoc, append-nil, arith, inl, inr}
 use Rattle.std.specs.Prelude.{◌≢◌, ◌⊎◌, ◌==◌, not, IsTrue}
 use Rattle.std.proofs.lemmas.Bool.{cases_lt}
@@ -36,7 +36,7 @@ use Rattle.ijson_json.proofs.errors.CharacterPlaces.{HasContent, content_at, no_
 use Rattle.ijson_json.proofs.faults.Contexts.{value_pause}
 use Rattle.ijson_json.proofs.faults.StuckTexts.{IsStuckAfter, none_completed, none_begins, stuck_at, stuck_error, fault_of, pause_begins, place_completed, ends_there}
 
--- the first of two concatenated runs is a run
+-- If all bytes of `a ++ b` pass the test, so do all bytes of `a`.
 run_first : (p : ℕ → Bool) (a b : List ℕ) → Run p (a ++ b) → Run p a
 run_first p [] b h = tt
 run_first p (c ∷ a) b h = (h.0, run_first p a b h.1)
@@ -44,7 +44,7 @@ run_first p (c ∷ a) b h = (h.0, run_first p a b h.1)
 abbrev is_other : ℕ → Bool
 is_other b = not (b == 34)
 
--- bytes without a quote are no content of a string
+-- A text without a quote does not begin with the rest of a string.
 no_quote : (text : List ℕ) → Run is_other text → HasContent text → ⊥
 no_quote text h (s, rest, (body, b, e)) =
     let behind = run_behind is_other body (34 ∷ rest) (subst (λ (l : List ℕ). Run is_other l) e h) in
@@ -62,16 +62,18 @@ closers_other [] h = tt
 closers_other (b ∷ text) (inl e, h) = (rw e refl, closers_other text h)
 closers_other (b ∷ text) (inr e, h) = (rw e refl, closers_other text h)
 
--- ---- a value that has begun
+-- ---- the beginning of a number or a word
 
--- The text begins with bytes of a number or a word, which `more` would complete. No JSON text continues after them like the text.
+-- `text` begins with `d ∷ front`, which `more` would extend to a number or a word.
+--
+-- `before ++ text` is stuck after `d ∷ front`.
 module _ {opened : ℕ} {before text : List ℕ} (c : ValueContext opened before text) (d : ℕ) (front rest more : List ℕ) (u : Tree)
     (is : text ≡ (d ∷ front) ++ rest) (value : IsValue u ((d ∷ front) ++ more)) (tokens : Run is_token ((d ∷ front) ++ more))
     (none : IsStuckAfter (before ++ d ∷ front) rest) where
   token_text : before ++ text ≡ (before ++ d ∷ front) ++ rest
   token_text = ap (λ (l : List ℕ). before ++ l) is ∙ sym (append_assoc before (d ∷ front) rest)
 
-  -- a prefix of `before ++ text` is a prefix of `before ++ d ∷ front`, or extends past it
+  -- A prefix of `before ++ text` is a prefix of `before ++ d ∷ front`, or longer.
   part : (longer y : List ℕ) → longer ++ y ≡ before ++ text
       → ((z : List ℕ) × (longer ++ z ≡ before ++ d ∷ front)) ⊎ IsLonger (before ++ d ∷ front) longer rest y
   part longer y e = elim (overlap longer (before ++ d ∷ front) y rest (e ∙ token_text)) [
@@ -79,7 +81,7 @@ module _ {opened : ℕ} {before text : List ℕ} (c : ValueContext opened before
     | inr o ↦ elim o [ inl l ↦ inl (l.0 ∷ l.1, sym l.2) | inr l ↦ inr l ]
   ]
 
-  -- no value begins within `d ∷ front`, or at its end
+  -- A value does not begin within `d ∷ front` or right after `d ∷ front`.
   no_place : {m : ℕ} {longer : List ℕ} (y : List ℕ) → Inside IsSpace m longer → longer ++ y ≡ before ++ text → IsLonger before longer text y
       → (IsLonger (before ++ d ∷ front) longer rest y → ⊥) → ⊥
   no_place {longer = longer} y place e (b, mid, f, g) beyond = elim (part longer y e) [
@@ -115,7 +117,7 @@ module _ {opened : ℕ} {before text : List ℕ} (c : ValueContext opened before
     ]
   ]
 
-  -- the value and the closing brackets complete the text
+  -- `more` and closing brackets extend `before ++ d ∷ front` to a JSON text.
   built : (Begins (before ++ d ∷ front)) × ((t : Tree) × Spaced (λ value. IsValue t value) ((before ++ d ∷ front) ++ (more ++ c.closers)))
   built =
       let b = c.builds u ((d ∷ front) ++ more) (spaced (λ value. IsValue u value) ((d ∷ front) ++ more) value) in
@@ -152,7 +154,8 @@ module _ {opened : ℕ} {before text : List ℕ} (c : ValueContext opened before
           (all-append _ z (more ++ c.closers) behind
           (all-append _ more c.closers (run_behind is_other (d ∷ front) more plain) (closers_other c.closers c.closing))) content
 
-  -- the error of the text is after the bytes that have begun
+  -- If `text` does not begin with a number out of range, the error is a syntax error after
+  -- `d ∷ front`.
   pub token_error : (IsUnread text OutOfRange → ⊥) → IsErrorOf (before ++ text) (errors.Syntax (length (before ++ d ∷ front)))
   token_error read =
       (no_deep, no_range read, inr (stuck_at (before ++ d ∷ front) rest token_text none built.0, no_escape))
@@ -161,7 +164,7 @@ module _ {opened : ℕ} {before text : List ℕ} (c : ValueContext opened before
 
 module _ {b : ℕ} {word : List ℕ} {t : Tree} (w : Word b word t) (others : List ℕ) (begins : word ≡ b ∷ others) (tokens : Run is_token word)
     {opened : ℕ} {before text : List ℕ} (c : ValueContext opened before text) (more : List ℕ) (e : text ≡ b ∷ more) where
-  -- no number begins like the word
+  -- A text that begins with the first byte of the word does not begin with a number.
   no_number : IsUnread text OutOfRange → ⊥
   no_number (count, f, (n, spelled, past)) =
       let number_kind = kind_at (number n) b more text (drop count text) e
@@ -171,7 +174,7 @@ module _ {b : ℕ} {word : List ℕ} {t : Tree} (w : Word b word t) (others : Li
 
   module _ {left count : ℕ} (g : CommonFront text word count) (left_is : left ≡ length text - count)
       (other : (rest : List ℕ) → text ≢ word ++ rest) where
-    -- the next byte is not that of the word
+    -- The byte of `text` after the common prefix is not the next byte of the word.
     stopped : (rest more next x : List ℕ) → StartsAs rest next → next ≡ more ++ x → g.rest ≡ rest → g.more ≡ more → ⊥
     stopped rest [] next x starts same r m =
         other g.rest (g.text_is ∙ ap (λ (l : List ℕ). l ++ g.rest) (sym (g.word_is ∙ ap (λ (l : List ℕ). g.front ++ l) m ∙ append-nil g.front)))
@@ -205,14 +208,14 @@ module _ {b : ℕ} {word : List ℕ} {t : Tree} (w : Word b word t) (others : Li
         (omega (arith, left_is, g.count_is, ap length g.text_is, length-append g.front g.rest))
         (token_error c d front g.rest g.more t is value run (stuck d front h) no_number)
 
-  -- a word that stops
+  -- A fault of reading the word is the error of the whole text.
   pub word_fault : (fault : Fault) → WordFault text word fault → RejectsBy (before ++ text) fault
   word_fault (faults.Syntax left) (count, g, left_is, other) = word_error g left_is other g.front refl
   word_fault fault h = absurd h
 
 -- ---- a number
 
--- no number front of a text is longer than another
+-- If `IsNumberFront` holds for `count` and for `other`, `other` is at most `count`.
 front_within : (text : List ℕ) (count other : ℕ) → IsNumberFront text count → IsNumberFront text other → other ≤ count
 front_within text count other f g = elim (cases_lt count other) [
   | inl less ↦ absurd
@@ -229,7 +232,7 @@ front_within text count other f g = elim (cases_lt count other) [
   | inr most ↦ omega (arith, most)
 ]
 
--- a value that begins with a byte with which only a number begins is a number
+-- A value is a number if only a number can begin with its first byte.
 number_alone : (t : Tree) (text : List ℕ) (first : ℕ) (more x : List ℕ) → text ≡ first ∷ more → IsApart first
     → Front (λ value. IsValue t value) text x → (n : Decimal) × Front (λ front. Spells front n) text x
 number_alone (number n) text first more x e apart f = (n, record { front = f.front; holds = f.holds; is = f.is })
@@ -247,7 +250,8 @@ module _ {opened : ℕ} {before text : List ℕ} (c : ValueContext opened before
   split : text ≡ front ++ rest
   split = sym (take-append-drop s.count text)
 
-  -- no number continues like the text
+  -- A text that continues after `front` with the first byte of `rest` does not begin with a number
+  -- that ends there.
   no_front : (n : Decimal) (next x : List ℕ) → StartsAs rest next → Front (λ front. Spells front n) (front ++ next) x → Stops x → ⊥
   no_front n next x starts f stops = elim (overlap f.front front x next (sym f.is)) [
     | inl o ↦ elim s.stops [
@@ -281,7 +285,7 @@ module _ {opened : ℕ} {before text : List ℕ} (c : ValueContext opened before
       let (n, g) = number_alone v (front ++ next) first others x is apart f in
       no_front n next x starts g stops
 
-  -- the leading number is not beyond the limit
+  -- The number at the start of `text` is not out of range.
   number_read : IsUnread text OutOfRange → ⊥
   number_read (other, f, (n, spelled, past)) =
       let same : other ≡ s.count =
@@ -310,6 +314,6 @@ module _ {opened : ℕ} {before text : List ℕ} (c : ValueContext opened before
       (token_error c d front' rest others (number n) is value (number_tokens ((d ∷ front') ++ others) (spells_bytes ((d ∷ front') ++ others) n value))
       (subst (λ (l : List ℕ). IsStuckAfter (before ++ l) rest) h number_stuck) number_read)
 
-  -- a number that stops
+  -- A syntax fault of reading a number is the error of the whole text.
   pub number_fault : RejectsBy (before ++ text) (faults.Syntax left)
   number_fault = number_error front refl

@@ -1,4 +1,4 @@
--- A whole text that is read or rejected.
+-- Lemmas about the result of reading a whole text.
 use Rattle.std.proofs.Common.{◌≡◌, ℕ, ◌≤◌, true, List, [], ◌∷◌, ◌++◌, length, Result, Ok, Err, refl, sym, ap, subst, ◌∙◌}
 use Rattle.std.proofs.Common.{append_assoc, append-nil, arith}
 use Rattle.std.specs.Prelude.{IfErr, MatchResult}
@@ -28,12 +28,12 @@ use Rattle.ijson_json.proofs.errors.AllowedErrors.{error_is_allowed}
 use Rattle.ijson_json.proofs.faults.Contexts.{text_context}
 use Rattle.ijson_json.proofs.faults.StuckTexts.{IsStuckAfter, fault_of, stuck_error}
 
--- a fault of the value is the error of the whole text
+-- A fault of the value is the error of the whole text.
 pub text_fault : (text start : List ℕ) (fault : Fault) → Skips text start → Explains 0 start fault → RejectsBy text fault
 text_fault text start fault s h = subst (λ (l : List ℕ). RejectsBy l fault) (sym s.is) (h s.space (text_context text start s))
 
 module _ (text start rest end : List ℕ) (t : Tree) (s : Skips text start) (r : IsRead 0 start t rest) (q : Skips rest end) where
-  -- the text with other bytes after the value
+  -- The value of the text, with the white space before and after it.
   abbrev seen : List ℕ
   seen = s.space ++ (r.found.front ++ q.space)
 
@@ -54,11 +54,11 @@ module _ (text start rest end : List ℕ) (t : Tree) (s : Skips text start) (r :
     },
   )
 
-  -- the value and white space are the whole text
+  -- If only white space follows the value, the text is accepted.
   pub whole : length end ≡ 0 → Accepted text (settled t)
   whole z = subst (λ (l : List ℕ). Accepted l (settled t)) (sym seen_text) (seen_accepted end (rw (nil_from_length end z) tt))
 
-  -- no text continues after the value and white space
+  -- If bytes are left after the value and white space, no JSON text continues like the text.
   behind_stuck : (length end ≡ 0 → ⊥) → IsStuckAfter seen end
   behind_stuck some u next starts (b, v, a, sb, w, sa, e) =
       let front = r.found.front in
@@ -77,15 +77,15 @@ module _ (text start rest end : List ℕ) (t : Tree) (s : Skips text start) (r :
       go [] is starts none = some (ap length is)
       go (c ∷ rest) is (more, starts) none = cc
 
-  -- more text after the value is the error of the text
+  -- If bytes are left after the value and white space, the text has a syntax error there.
   pub behind : (length end ≡ 0 → ⊥) → RejectsBy text (faults.Syntax (length end))
   behind some = fault_of seen end (length end) seen_text refl
       (stuck_error seen end seen_text (behind_stuck some)
       (record { more = []; tree = settled t; accepted = seen_accepted (32 ∷ []) (refl, tt) }))
 
--- ---- consequences
+-- ---- consequences for the results of reading
 
--- an error that a text is rejected with is one that the text allows
+-- An error that satisfies `Rejects` satisfies `Refuses`.
 rejects_refuses : (text : List ℕ) (error : JsonError) → Rejects text error → Refuses text error
 rejects_refuses text errors.Memory h = tt
 rejects_refuses text (errors.Syntax at) h = error_is_allowed text (errors.Syntax at) (h (λ e. cc))
@@ -96,13 +96,13 @@ pub answers_refused : (text : List ℕ) (result : Result WellFormed JsonError) �
 answers_refused text (Ok v) h = tt
 answers_refused text (Err e) h = rejects_refuses text e h
 
--- an accepted text is read as its tree
+-- If a text is accepted, a result that satisfies `Answers` is its tree or `Memory`.
 pub answers_read : (text : List ℕ) (result : Result WellFormed JsonError) → Answers text result → (t : Tree) → Accepted text t
     → MatchResult result (λ value. value.tree ≡ t) (λ error. error ≡ errors.Memory)
 answers_read text (Ok v) h t a = one_tree text v.tree t h.0 a.0 true true h.2 a.2
 answers_read text (Err e) h t a = only_memory text e t (rejects_refuses text e h) a
 
--- a printed text is read as its tree
+-- If a text is printed from a tree, a result that satisfies `Answers` is that tree or `Memory`.
 pub answers_printed : (text : List ℕ) (result : Result WellFormed JsonError) → Answers text result → (t : Tree) → IsWellFormed t
     → depth t ≤ max_depth → text ≡ print t → MatchResult result (λ value. value.tree ≡ t) (λ error. error ≡ errors.Memory)
 answers_printed text result h t n d e = answers_read text result h t (rw e (printed_is_accepted t n d))

@@ -1,4 +1,4 @@
--- The elements of an array and the members of an object as elements separated by commas.
+-- The elements of an array and the members of an object as lists separated by commas.
 use Rattle.std.proofs.Common.{◌≡◌, ℕ, List, [], ◌∷◌, ◌++◌, refl, append_assoc}
 use Rattle.ijson_value.specs.Tree.{Tree, Items, no_items, item, items_list, Members, no_members, member, members_list}
 use Rattle.ijson_json.specs.Grammar.{Spaced, Split, IsString, IsValue, IsItems, IsMembers}
@@ -6,7 +6,7 @@ use Rattle.ijson_json.specs.private.Reading.{Pair}
 use Rattle.ijson_json.proofs.grammar.CommaLists.{IsList, Shape}
 use Rattle.ijson_json.proofs.grammar.FirstBytes.{value-past_space, value-past_kind}
 
--- the elements of an array end at `]`
+-- The shape of the elements of an array, which end at `]`.
 abbrev pub items_shape : Shape Tree
 items_shape = record {
   Is = λ t text. IsValue t text;
@@ -19,11 +19,11 @@ items_shape = record {
   past_closing = value-past_kind 93 refl;
 }
 
--- a member begins with a quote
+-- The text of a member begins with a quote.
 pub pair_first : (m : List ℕ × Tree) (text x : List ℕ) → Pair m text → (more : List ℕ) × (text ++ x ≡ 34 ∷ more)
 pair_first m text x p = ((p.is_key.0 ++ 34 ∷ []) ++ (p.gap ++ 58 ∷ (p.gap' ++ p.value)) ++ x, rw (p.is, p.is_key.2) (simp append_assoc))
 
--- members end at `}`
+-- The shape of the members of an object, which end at `}`.
 abbrev pub members_shape : Shape (List ℕ × Tree)
 members_shape = record {
   Is = λ m text. Pair m text;
@@ -36,7 +36,8 @@ members_shape = record {
   past_closing = λ m text x p. rw (pair_first m text x p).1 refl;
 }
 
--- white space around a key, `:` and a value
+-- A key, `:` and a value, with white space around the key and the value, form a member with white
+-- space around it.
 pub spaced_pair : (k : List ℕ) (t : Tree) (text : List ℕ)
     → Split (λ key. Spaced (λ string. IsString k string) key) 58 (λ value. Spaced (λ value. IsValue t value) value) text
     → Spaced (λ pair. Pair (k, t) pair) text
@@ -60,7 +61,7 @@ spaced_pair k t text (first, second, (b, s, g, sb, h, sg, e), (g', v, a, sg', w,
   rw (i, e, f) (simp append_assoc),
 )
 
--- and the inverse
+-- A member with white space around it is a key, `:` and a value, with white space around both.
 pub spaced_pair_back : (k : List ℕ) (t : Tree) (text : List ℕ) → Spaced (λ pair. Pair (k, t) pair) text
     → Split (λ key. Spaced (λ string. IsString k string) key) 58 (λ value. Spaced (λ value. IsValue t value) value) text
 spaced_pair_back k t text (b, inside, a, sb, p, sa, e) = (
@@ -71,25 +72,25 @@ spaced_pair_back k t text (b, inside, a, sb, p, sa, e) = (
   rw (e, p.is) (simp append_assoc),
 )
 
--- the elements of an array are a list of values
+-- A text that spells the `Items` spells the list of these elements.
 pub items_to : (is : Items) (text : List ℕ) → IsItems is text → IsList items_shape.Is (items_list is) text
 items_to no_items text h = h
 items_to (item t no_items) text h = h
 items_to (item t (item u more)) text (a, b, v, w, e) = (a, b, v, items_to (item u more) b w, e)
 
--- and the inverse
+-- A text that spells the list of elements spells the `Items`.
 pub items_from : (is : Items) (text : List ℕ) → IsList items_shape.Is (items_list is) text → IsItems is text
 items_from no_items text h = h
 items_from (item t no_items) text h = h
 items_from (item t (item u more)) text (a, b, v, w, e) = (a, b, v, items_from (item u more) b w, e)
 
--- members are a list of keys and values
+-- A text that spells the `Members` spells the list of these members.
 pub members_to : (ms : Members) (text : List ℕ) → IsMembers ms text → IsList members_shape.Is (members_list ms) text
 members_to no_members text h = h
 members_to (member k t no_members) text h = spaced_pair k t text h
 members_to (member k t (member l u more)) text (a, b, v, w, e) = (a, b, spaced_pair k t a v, members_to (member l u more) b w, e)
 
--- and the inverse
+-- A text that spells the list of members spells the `Members`.
 pub members_from : (ms : Members) (text : List ℕ) → IsList members_shape.Is (members_list ms) text → IsMembers ms text
 members_from no_members text h = h
 members_from (member k t no_members) text h = spaced_pair_back k t text h

@@ -1,4 +1,4 @@
--- A text has at most one tree.
+-- Lemmas: a text has at most one tree.
 use Rattle.std.proofs.Common.{◌≡◌, ℕ, true, false, List, [], ◌∷◌, ◌++◌, refl, sym, ap, ap₂, ◌∙◌, append_assoc, arith}
 use Rattle.std.proofs.lemmas.List.{append_cancel_left, append_cancel_right, append-nil}
 use Rattle.ijson_number.specs.NumberBytes.{is_number_byte}
@@ -18,23 +18,23 @@ use Rattle.ijson_json.proofs.grammar.FirstBytes.{value-past_space, kinds_same}
 use Rattle.ijson_json.proofs.grammar.CommaLists.{ElementSame, AreAlone, lists_same, space-Stops, Ends-any}
 use Rattle.ijson_json.proofs.grammar.ElementShapes.{items_shape, members_shape, items_to, members_to}
 
--- ---- between two bytes
+-- ---- texts between two bytes
 
--- a text between two bytes, and the text after them
+-- If `a` is `i` between two bytes, `a ++ x` is the opening byte, `i`, the closing byte and `x`.
 pub enclosed_with : (opening closing : ℕ) (a i x : List ℕ) → a ≡ opening ∷ (i ++ closing ∷ []) → a ++ x ≡ opening ∷ (i ++ closing ∷ x)
 enclosed_with opening closing a i x f = rw f (simp append_assoc)
 
--- two texts between the same bytes
+-- If two enclosed texts begin equal texts, the texts after the opening byte are equal.
 pub enclosed : (opening closing : ℕ) (a b i j x y : List ℕ) → a ≡ opening ∷ (i ++ closing ∷ []) → b ≡ opening ∷ (j ++ closing ∷ [])
     → a ++ x ≡ b ++ y → i ++ closing ∷ x ≡ j ++ closing ∷ y
 enclosed opening closing a b i j x y f g e =
     tails opening opening _ _ (sym (enclosed_with opening closing a i x f) ∙ e ∙ enclosed_with opening closing b j y g)
 
--- two prefixes with the same rest are the same
+-- If two equal texts end with the same rest, the texts before the rest are equal.
 same_front : (a b x y : List ℕ) → a ++ x ≡ b ++ y → x ≡ y → a ≡ b
 same_front a b x y e f = append_cancel_right a b y (ap (λ (l : List ℕ). a ++ l) (sym f) ∙ e)
 
--- a text begins with at most one string
+-- The string at the start of a text is unique.
 pub string_same : (s t a b x y : List ℕ) → IsString s a → IsString t b → a ++ x ≡ b ++ y → (s ≡ t) × ((a ≡ b) × (x ≡ y))
 string_same s t a b x y (i, v, f) (j, w, g) e =
     let same = body_same x y v w (enclosed 34 34 a b i j x y f g e) in
@@ -42,7 +42,7 @@ string_same s t a b x y (i, v, f) (j, w, g) e =
 
 -- ---- one value
 
--- members with equal values are the same
+-- If the value of a member is unique in its text, so is the member.
 pub pair_same : (m n : List ℕ × Tree) → ElementSame Tree items_shape m.1 n.1 → ElementSame (List ℕ × Tree) members_shape m n
 pair_same m n values a b x y p q l r e =
     let left : a ++ x ≡ p.key ++ (p.gap ++ 58 ∷ (p.gap' ++ (p.value ++ x))) = rw (p.is) (simp append_assoc) in
@@ -55,12 +55,12 @@ pair_same m n values a b x y p q l r e =
     let v = values p.value q.value x y p.is_value q.is_value l r h.1 in
     (ap₂ (λ (k : List ℕ) (t : Tree). (k, t)) k.0 v.0, (same_front a b x y e v.1.1, v.1.1))
 
--- two equal words
+-- If a word begins two equal texts, the texts after the word are equal.
 word_same : (word a b x y : List ℕ) → a ≡ word → b ≡ word → a ++ x ≡ b ++ y → (a ≡ b) × (x ≡ y)
 word_same word a b x y v w e = (v ∙ sym w, append_cancel_left word x y (rw (v, w) at e))
 
 mutual
-  -- two values in one text are the same
+  -- The value at the start of a text is unique.
   pub value_same : (t u : Tree) → ElementSame Tree items_shape t u
   value_same null null a b x y v w p q e = (refl, word_same null_text a b x y v w e)
   value_same (boolean true) (boolean true) a b x y v w p q e = (refl, word_same (boolean_text true) a b x y v w e)
@@ -93,7 +93,7 @@ mutual
 
 -- ---- a whole text
 
--- one text spells one tree, as written
+-- A text spells at most one tree, as written with duplicate keys.
 pub text_same : (text : List ℕ) (t u : Tree) → Spaced (λ value. IsValue t value) text → Spaced (λ value. IsValue u value) text → t ≡ u
 text_same text t u (b, v, a, s, w, sa, e) (b', v', a', s', w', sa', e') =
     let p = run_same is_space b b' (v ++ a) (v' ++ a') s s' (value-past_space t v a w) (value-past_space u v' a' w') (sym e ∙ e') in
@@ -102,6 +102,6 @@ text_same text t u (b, v, a, s, w, sa, e) (b', v', a', s', w', sa', e') =
     let same = value_same t u v v' a a' w w' (Ends-any t a (rw append-nil at q)) (Ends-any u a' (rw append-nil at q')) p.1 in
     same.0
 
--- a text has at most one tree
+-- A text has at most one tree.
 pub one_tree : OneTree
 one_tree text t u d e r s a b = a.tree_is ∙ ap settled (text_same text a.written b.written a.spelled b.spelled) ∙ sym b.tree_is

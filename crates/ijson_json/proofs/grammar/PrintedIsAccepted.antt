@@ -1,4 +1,4 @@
--- The printed text of a well-formed tree within the limit on depth is accepted, as that tree.
+-- Lemmas: the printed text of a well-formed tree within the nesting limit is accepted as that tree.
 use Rattle.std.proofs.Common.{◌≡◌, true, refl, sym, ap₂, subst}
 use Rattle.std.specs.Prelude.{◌&&◌}
 use Rattle.ijson_number.specs.Text.{num_text}
@@ -13,12 +13,12 @@ use Rattle.ijson_json.specs.PrintedIsAccepted.{PrintedIsAccepted}
 use Rattle.ijson_json.proofs.grammar.SettlesToItself.{settles}
 use Rattle.ijson_json.proofs.grammar.SpelledTrees.{kept_shapes, tree_spelled}
 
--- the text of a tree spells it
+-- The printed text of a well-formed tree spells that tree.
 printed : (t : Tree) → IsWellFormed t → Spaced (λ value. IsValue t value) (print t)
 printed t h =
     subst (λ (u : Tree). Spaced (λ value. IsValue u value) (print t)) (kept_shapes t) (tree_spelled num_text (λ n. n) num_text_spells t h)
 
--- the numbers of a well-formed tree are within the limit
+-- The numbers of a well-formed tree are within the exponent limit.
 mutual
   ranged : (t : Tree) → IsWellFormed t → is_ranged t ≡ true
   ranged null h = refl
@@ -28,17 +28,17 @@ mutual
   ranged (array is) h = ranged_items is h
   ranged (object ms) h = ranged_members ms h.1
 
-  -- and so are those of elements
+  -- The numbers of well-formed elements are within the exponent limit.
   ranged_items : (is : Items) → AreWellFormed is → items_ranged is ≡ true
   ranged_items no_items h = refl
   ranged_items (item t more) h = ap₂ ◌&&◌ (ranged t h.0) (ranged_items more h.1)
 
-  -- and those of members
+  -- The numbers of well-formed members are within the exponent limit.
   ranged_members : (ms : Members) → HaveWellFormed ms → members_ranged ms ≡ true
   ranged_members no_members h = refl
   ranged_members (member k t more) h = ap₂ ◌&&◌ (ranged t h.0) (ranged_members more h.1)
 
--- the printed text of a well-formed tree within the limit on depth is accepted
+-- The printed text of a well-formed tree within the nesting limit is accepted as that tree.
 pub printed_is_accepted : PrintedIsAccepted
 printed_is_accepted t h d = (
   depth t,

@@ -1,4 +1,4 @@
--- A tree whose objects have distinct keys settles to itself.
+-- Lemmas: resolving duplicate keys keeps a tree whose objects have distinct keys.
 use Rattle.std.proofs.Common.{◌≡◌, ℕ, List, [], ◌∷◌, refl, sym, ap, ap₂, subst, ◌∙◌}
 use Rattle.ijson_table.specs.Store.{put_each, keys_of, IsDistinct}
 use Rattle.ijson_table.proofs.pairs.PutEach.{put_each-new}
@@ -7,13 +7,13 @@ use Rattle.ijson_value.specs.Tree.{member, members_of, member_keys}
 use Rattle.ijson_value.specs.WellFormed.{IsWellFormed, AreWellFormed, HaveWellFormed}
 use Rattle.ijson_json.specs.Settled.{settled, settled_items, settled_pairs}
 
--- settling keeps the keys
+-- Resolving duplicate keys in the values of members keeps the keys of the members.
 keys-settled : (ms : Members) → keys_of (settled_pairs ms) ≡ member_keys ms
 keys-settled no_members = refl
 keys-settled (member k t more) = ap (λ (l : List (List ℕ)). k ∷ l) (keys-settled more)
 
 mutual
-  -- a well-formed tree settles to itself
+  -- Resolving duplicate keys keeps a well-formed tree.
   pub settles : (t : Tree) → IsWellFormed t → settled t ≡ t
   settles (array is) h = ap array (settles_items is h)
   settles (object ms) h =
@@ -22,12 +22,12 @@ mutual
       ap object (ap members_of alone ∙ settles_members ms h.1)
   settles t h = refl
 
-  -- settling keeps items
+  -- Resolving duplicate keys keeps well-formed elements.
   settles_items : (is : Items) → AreWellFormed is → settled_items is ≡ is
   settles_items no_items h = refl
   settles_items (item t more) h = ap₂ item (settles t h.0) (settles_items more h.1)
 
-  -- settling keeps members
+  -- Resolving duplicate keys keeps well-formed members.
   settles_members : (ms : Members) → HaveWellFormed ms → members_of (settled_pairs ms) ≡ ms
   settles_members no_members h = refl
   settles_members (member k t more) h = ap₂ (λ (u : Tree) (m : Members). member k u m) (settles t h.0) (settles_members more h.1)

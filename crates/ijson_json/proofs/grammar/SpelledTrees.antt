@@ -1,4 +1,4 @@
--- The printed text of a tree spells the tree with each number `n` replaced by `shape n`.
+-- Lemmas: the printed text of a tree spells the tree, with each number `n` replaced by `shape n`.
 use Rattle.std.proofs.Common.{◌≡◌, ℕ, List, [], ◌∷◌, ◌++◌, refl, sym, ap, ap₂}
 use Rattle.std.proofs.lemmas.List.{append-nil}
 use Rattle.ijson_number.specs.Decimal.{Decimal}
@@ -9,15 +9,15 @@ use Rattle.ijson_json.specs.Grammar.{Spaced, IsString, IsValue, IsItems, IsMembe
 use Rattle.ijson_json.specs.Print.{text_by, items_by, members_by, quoted, all_escaped}
 use Rattle.ijson_json.proofs.grammar.StringBodies.{all_escaped_is}
 
--- empty white space is white space
+-- A text with the property `P` is spaced, with empty white space around it.
 pub spaced : (P : List ℕ → Type 0) (text : List ℕ) → P text → Spaced P text
 spaced P text p = ([], text, [], tt, p, tt, sym (append-nil text))
 
--- `quoted s` is a JSON string that spells `s`
+-- `quoted s` is a JSON string with the content `s`.
 pub quoted_is : (s : List ℕ) → IsString s (quoted s)
 quoted_is s = (all_escaped s, all_escaped_is s, refl)
 
--- a tree whose numbers are replaced by a function
+-- The tree with each number `n` replaced by `shape n`.
 abbrev mutual
   pub reshaped : (Decimal → Decimal) → Tree → Tree
   reshaped shape null = null
@@ -35,7 +35,7 @@ abbrev mutual
   reshaped_members shape no_members = no_members
   reshaped_members shape (member k t more) = member k (reshaped shape t) (reshaped_members shape more)
 
--- replacing each number by itself keeps the tree
+-- Replacing each number by itself keeps the tree.
 mutual
   pub kept_shapes : (t : Tree) → reshaped (λ n. n) t ≡ t
   kept_shapes (array is) = ap array (kept_item_shapes is)
@@ -50,7 +50,8 @@ mutual
   kept_member_shapes no_members = refl
   kept_member_shapes (member k t more) = ap₂ (member k) (kept_shapes t) (kept_member_shapes more)
 
--- if `num n` spells `shape n` for each number `n`, then `text_by num t` spells `reshaped shape t` for each well-formed tree `t`
+-- If `num n` spells `shape n` for each number `n`, then `text_by num t` spells `reshaped shape t`
+-- for each well-formed tree `t`.
 module _ (num : Decimal → List ℕ) (shape : Decimal → Decimal)
     (number_spelled : (n : Decimal) → IsNum n → IsValue (number (shape n)) (num n)) where
   as_spaced : (t : Tree) → IsValue (reshaped shape t) (text_by num t) → Spaced (λ value. IsValue (reshaped shape t) value) (text_by num t)

@@ -1,4 +1,5 @@
--- The body of a string: a text spells at most one, and the printed string spells the original.
+-- Lemmas about the body of a string: the string that it spells is unique, and a printed string
+-- spells the original.
 use Rattle.std.proofs.Common.{◌≡◌, ℕ, ◌+◌, ◌-◌, ◌*◌, ◌/◌, ◌%◌, ◌<◌, Bool, true, false, cond, List, [], ◌∷◌, ◌++◌, Some, None}
 use Rattle.std.proofs.Common.{refl, sym, ap, ap₂, ◌∙◌, append_assoc, arith}
 use Rattle.std.specs.Prelude.{IsTrue, ◌==◌, nat_lt}
@@ -14,13 +15,13 @@ use Rattle.ijson_json.proofs.scanning.Prefixes.{not_both, heads, tails, heads_ap
 
 -- ---- one character
 
--- four hexadecimal digits
+-- Four hexadecimal digits spell their value in base 16.
 pub four_digits : {a b c d x y z w u : ℕ} → hex_digit a ≡ Some x → hex_digit b ≡ Some y → hex_digit c ≡ Some z → hex_digit d ≡ Some w
     → u ≡ x * 4096 + (y * 256 + (z * 16 + w)) → Hex (a ∷ b ∷ c ∷ d ∷ []) u
 four_digits {a} {b} {c} {d} {x} {y} {z} {w} {u} f g h i e =
     record { a = a; b = b; c = c; d = d; x = x; y = y; z = z; w = w; text_is = refl; first = f; second = g; third = h; fourth = i; is = e }
 
--- four leading digits have one value, and leave one rest
+-- The value of four leading hexadecimal digits, and the text after the digits, are unique.
 pub hex_same : (h l : List ℕ) (u v : ℕ) (x y : List ℕ) → Hex h u → Hex l v → h ++ x ≡ l ++ y → (u ≡ v) × ((h ≡ l) × (x ≡ y))
 hex_same h l u v x y p q e =
     let whole : p.a ∷ p.b ∷ p.c ∷ p.d ∷ x ≡ q.a ∷ q.b ∷ q.c ∷ q.d ∷ y = ap (λ (t : List ℕ). t ++ x) (sym p.text_is) ∙ e
@@ -31,11 +32,11 @@ hex_same h l u v x y p q e =
     let dw : p.w ≡ q.w = cc (whole, p.fourth, q.fourth) in
     (omega (arith, p.is, q.is, dx, dy, dz, dw), (cc (whole, p.text_is, q.text_is), cc whole))
 
--- an unescaped byte is not a backslash
+-- An unescaped byte is not a backslash.
 not_backslash : (b : ℕ) (x y : List ℕ) → IsTrue (is_unescaped b) → b ∷ x ≡ 92 ∷ y → ⊥
 not_backslash b x y h e = let f : b ≡ 92 = heads _ _ _ _ e in not_both (is_unescaped 92) (rw f at h) refl
 
--- a letter of a short escape is not `u`
+-- The letter of a short escape is not `u`.
 not_u : (b c : ℕ) (x y : List ℕ) → short_escape b ≡ Some c → 92 ∷ b ∷ x ≡ 92 ∷ 117 ∷ y → ⊥
 unfolding short_escape
 not_u b c x y h e =
@@ -43,15 +44,15 @@ not_u b c x y h e =
     let g : None ≡ Some c = rw f at h in
     cc
 
--- the same spelling, the same bytes, and the same rest
+-- Holds if the two spellings, their bytes and the texts after them are equal.
 abbrev pub Same : (w m x w' m' x' : List ℕ) → Type 0
 Same w m x w' m' x' = (w ≡ w') × ((m ≡ m') × (x ≡ x'))
 
--- equal texts are equal after two bytes
+-- If two texts are equal, so are the texts after their first two bytes.
 two : (x y : List ℕ) (a b c d : ℕ) → a ∷ b ∷ x ≡ c ∷ d ∷ y → x ≡ y
 two x y a b c d e = tails _ _ _ _ (tails _ _ _ _ e)
 
--- a text begins with at most one character
+-- The character at the start of a text is unique.
 pub character_same : {w m w' m' : List ℕ} (x x' : List ℕ) → Character w m → Character w' m' → w ++ x ≡ w' ++ x' → Same w m x w' m' x'
 character_same x x' (unescaped {b} h) (unescaped {b = b'} h') e = let f : b ∷ x ≡ b' ∷ x' = e in (cc, (cc, cc))
 character_same x x' (unescaped {b} h) d e = absurd (not_backslash b _ _ h e)
@@ -78,14 +79,14 @@ character_same x x' (pair {h} {l} {u} {v} g i j k) (pair {h = h'} {l = l'} {u = 
       (ap₂ (λ (a b : ℕ). encode_utf8 (0x10000 + ((a - 0xd800) * 1024 + (b - 0xdc00)))) s.0 t.0, t.1.1),
     )
 
--- no character begins with the closing quote
+-- A quote does not begin a character.
 pub not_quote : {w m : List ℕ} (x y : List ℕ) → Character w m → w ++ x ≡ 34 ∷ y → ⊥
 not_quote x y (unescaped {b} h) e = let f : b ≡ 34 = heads _ _ _ _ e in not_both (is_unescaped 34) (rw f at h) refl
 not_quote x y c e = heads_apart 92 34 _ _ e refl
 
 -- ---- the body
 
--- the body of a string before its closing quote is unique
+-- The body of a string before the first closing quote is unique.
 pub body_same : {a s b t : List ℕ} (x y : List ℕ) → StringBody a s → StringBody b t → a ++ 34 ∷ x ≡ b ++ 34 ∷ y → (s ≡ t) × (x ≡ y)
 body_same x y empty empty e = (refl, tails _ _ _ _ e)
 body_same x y empty (one_more {written = w} {meant = m} {body = a} {text = s} c r) e =
@@ -100,37 +101,39 @@ body_same x y (one_more {written = w} {meant = m} {body = a} {text = s} c r)
 
 -- ---- printing
 
--- a written hexadecimal digit is read as that digit
+-- The hexadecimal digit written for `n` has the value `n`.
 hex_text_digit : (n : ℕ) → n < 16 → hex_digit (hex_text n) ≡ Some n
 unfolding hex_digit
 hex_text_digit n h = grind (arith, nat_tests)
 
--- no control character is a surrogate
+-- A control character is not a surrogate.
 low_no_surrogate : (b : ℕ) → b < 32 → (is_high_surrogate b ≡ false) × (is_low_surrogate b ≡ false)
 low_no_surrogate b h = (grind (arith, nat_tests), grind (arith, nat_tests))
 
--- four digits are written for a control character
+-- The four hexadecimal digits that are written for a control character have its code as their
+-- value.
 hex_control : (b : ℕ) → b < 32 → Hex (48 ∷ 48 ∷ hex_text (b / 16) ∷ hex_text (b % 16) ∷ []) b
 unfolding hex_digit
 hex_control b h = four_digits refl refl (hex_text_digit (b / 16) (omega arith)) (hex_text_digit (b % 16) (omega arith)) (omega arith)
 
--- the escape of a control character spells it
+-- The escape written for a control character spells that character.
 control : (b : ℕ) → nat_lt b 32 ≡ true → Character (92 ∷ 117 ∷ 48 ∷ 48 ∷ hex_text (b / 16) ∷ hex_text (b % 16) ∷ []) (b ∷ [])
 control b e =
     let h : b < 32 = ltb-true b 32 e in
     rw (← encode_ascii b (omega arith)) (unicode (hex_control b h) (low_no_surrogate b h).0 (low_no_surrogate b h).1)
 
--- a spelling in each of two cases is a spelling of their choice
+-- If `x` spells `b` when `t` is true, and `y` spells `b` when `t` is false, `cond t x y` spells
+-- `b`.
 either : (t : Bool) (x y : List ℕ) (b : ℕ) → (t ≡ true → Character x (b ∷ [])) → (t ≡ false → Character y (b ∷ []))
     → Character (cond t x y) (b ∷ [])
 either true x y b f g = f refl
 either false x y b f g = g refl
 
--- a backslash and a letter spell the byte that has that letter
+-- A backslash and the letter of a byte spell that byte.
 letter : (b c : ℕ) (d : ℕ) → short_escape d ≡ Some c → (b == c) ≡ true → Character (92 ∷ d ∷ []) (b ∷ [])
 letter b c d e h = rw (eqb-true b c h) (short e)
 
--- the escape of a byte spells it
+-- The escape written for a byte spells that byte.
 pub escaped_is : (b : ℕ) → Character (escaped b) (b ∷ [])
 unfolding escaped short_escape
 escaped_is b =
@@ -146,7 +149,7 @@ escaped_is b =
     plain : (b : ℕ) → (b == 34) ≡ false → (b == 92) ≡ false → nat_lt b 32 ≡ false → IsTrue (is_unescaped b)
     plain b n34 n92 n32 = grind (arith, nat_tests)
 
--- the escaped text is a body that spells the text
+-- The escaped text of a string is a body that spells the string.
 pub all_escaped_is : (s : List ℕ) → StringBody (all_escaped s) s
 all_escaped_is [] = empty
 all_escaped_is (b ∷ s) = one_more (escaped_is b) (all_escaped_is s)

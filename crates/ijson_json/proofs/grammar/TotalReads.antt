@@ -1,4 +1,4 @@
--- A text has at most one tree and allows no error besides, so a function that reads it is total.
+-- Lemmas: a function that satisfies `ReadsAs` for a text also satisfies `IsTotal`.
 use Rattle.std.specs.Prelude.{◌≡◌, ℕ, List, Result, Ok, Err, true}
 use Rattle.std.proofs.Common.{refl, subst, arith}
 use Rattle.ijson_value.specs.Tree.{Tree}
@@ -9,7 +9,7 @@ use Rattle.ijson_json.specs.declared.fault.JsonError.{JsonError}
 use Rattle.ijson_json.specs.declared.fault.JsonError.TheVariants.{Syntax, TooDeep, NumberRange, Memory}
 use Rattle.ijson_json.proofs.grammar.OneTree.{one_tree}
 
--- an accepted text allows no error but out of memory
+-- The only error that an accepted text allows is `Memory`.
 pub only_memory : (text : List ℕ) (error : JsonError) (t : Tree) → Refuses text error → Accepted text t → error ≡ Memory
 only_memory text (Syntax at) t r a = absurd (r.1 t a.0 true a.2)
 only_memory text (TooDeep at) t r a = let past = r.1.each t a.0 true a.2 in absurd (omega (arith, past, a.1))

@@ -1,4 +1,4 @@
--- Reading arrays and objects, element by element.
+-- Lemmas about reading arrays and objects, element by element.
 use Rattle.std.proofs.Common.{◌≡◌, ℕ, suc, ◌+◌, Bool, List, [], ◌∷◌, ◌++◌, refl, sym, ap, ap₂, subst, ◌∙◌, arith, inl, inr}
 use Rattle.std.specs.Prelude.{◌&&◌}
 use Rattle.ijson_table.specs.Store.{put, put_each}
@@ -24,7 +24,7 @@ use Rattle.ijson_json.proofs.reading.ElementLists.{deepest, all_ranged}
 
 -- ---- a value that begins with a bracket
 
--- a value that begins with `[` is an array
+-- A value that begins with `[` is an array: its elements and `]` follow.
 pub array_at : (t : Tree) (inside x : List ℕ) → Front (λ value. IsValue t value) (91 ∷ inside) x
     → (ts : List Tree) × (i : List ℕ) × (t ≡ array (items_of ts)) × IsList items_shape.Is ts i × (inside ≡ i ++ 93 ∷ x)
 array_at (array is) inside x f =
@@ -33,7 +33,7 @@ array_at (array is) inside x f =
     (items_list is, i, ap array (sym (items_of-list is)), items_to is i are, behind)
 array_at t inside x f = absurd (let k : 4 ≡ rank t = kind_at t 91 inside _ x refl f in omega (arith, k))
 
--- a value that begins with `{` is an object
+-- A value that begins with `{` is an object: its members and `}` follow.
 pub object_at : (t : Tree) (inside x : List ℕ) → Front (λ value. IsValue t value) (123 ∷ inside) x
     → (ms : List (List ℕ × Tree)) × (i : List ℕ) × (t ≡ object (members_of ms)) × IsList members_shape.Is ms i × (inside ≡ i ++ 125 ∷ x)
 object_at (object ms) inside x f =
@@ -42,40 +42,40 @@ object_at (object ms) inside x f =
     (members_list ms, i, ap object (sym (members_of-list ms)), members_to ms i are, behind)
 object_at t inside x f = absurd (let k : 5 ≡ rank t = kind_at t 123 inside _ x refl f in omega (arith, k))
 
--- an array is one deeper than its elements
+-- An array is one level deeper than its deepest element.
 pub array_depth : (ts : List Tree) → depth (array (items_of ts)) ≡ suc (deepest Tree items_shape ts)
 array_depth [] = refl
 array_depth (t ∷ ts) = omega (arith, array_depth ts)
 
--- an array is within the limit if its elements are
+-- The numbers of an array are within the limit if and only if the numbers of its elements are.
 pub array_ranged : (ts : List Tree) → is_ranged (array (items_of ts)) ≡ all_ranged Tree items_shape ts
 array_ranged [] = refl
 array_ranged (t ∷ ts) = ap (λ (b : Bool). is_ranged t && b) (array_ranged ts)
 
--- an object is one deeper than its members
+-- An object is one level deeper than its deepest member.
 pub object_depth : (ms : List (List ℕ × Tree)) → depth (object (members_of ms)) ≡ suc (deepest (List ℕ × Tree) members_shape ms)
 object_depth [] = refl
 object_depth (m ∷ ms) = omega (arith, object_depth ms)
 
--- an object is within the limit if its members are
+-- The numbers of an object are within the limit if and only if the numbers of its members are.
 pub object_ranged : (ms : List (List ℕ × Tree)) → is_ranged (object (members_of ms)) ≡ all_ranged (List ℕ × Tree) members_shape ms
 object_ranged [] = refl
 object_ranged (m ∷ ms) = ap (λ (b : Bool). is_ranged m.1 && b) (object_ranged ms)
 
--- an element may begin after the bracket of an array and elements with their commas
+-- An element may begin after `[`, elements with a comma after each, and white space.
 pub array_placed : (opened : ℕ) (before parts space : List ℕ) → IsValuePlace opened before → EachWithComma IsElement parts → IsSpace space
     → IsValuePlace (opened + 1) (before ++ 91 ∷ (parts ++ space))
 array_placed opened before parts space place each s =
     subst (λ (n : ℕ). IsValuePlace n (before ++ 91 ∷ (parts ++ space))) (omega arith)
     (inside_deeper (inside_append (91 ∷ (parts ++ space)) place (λ last gap. in_array last gap each (here s))))
 
--- a member may begin after the bracket of an object and members with their commas
+-- A member may begin after `{`, members with a comma after each, and white space.
 pub object_placed : (opened : ℕ) (before parts space : List ℕ) → IsValuePlace opened before → EachWithComma IsMember parts → IsSpace space
     → IsMemberPlace (opened + 1) (before ++ 123 ∷ (parts ++ space))
 object_placed opened before parts space place each s =
     (opened, refl, inside_append (123 ∷ (parts ++ space)) place (λ last gap. (last, parts, space, gap, each, s, refl)))
 
--- how elements form an array
+-- The `Listing` of arrays: elements between `[` and `]` form an array.
 abbrev pub arrays : Listing Tree items_shape
 arrays = record {
   opening = 91;
@@ -93,7 +93,7 @@ arrays = record {
   placed = array_placed;
 }
 
--- how members form an object
+-- The `Listing` of objects: members between `{` and `}` form an object.
 abbrev pub objects : Listing (List ℕ × Tree) members_shape
 objects = record {
   opening = 123;
@@ -111,9 +111,9 @@ objects = record {
   placed = object_placed;
 }
 
--- ---- settling
+-- ---- settling, which resolves duplicate keys
 
--- settling one more element appends it
+-- If settling `ts` yields `us`, settling `ts` and `t` yields `us` and the settled `t`.
 pub settled-push : (ts : List Tree) (t : Tree) (us : List Tree) → items_of us ≡ settled_items (items_of ts)
     → items_of (us ++ settled t ∷ []) ≡ settled_items (items_of (ts ++ t ∷ []))
 settled-push [] t [] e = refl
@@ -124,13 +124,14 @@ settled-push (t' ∷ ts) t (u ∷ us) e =
     let rest : items_of us ≡ settled_items (items_of ts) = cc in
     ap₂ item first (settled-push ts t us rest)
 
--- the last entry is put last
+-- In a list of settled members, the last member `(k, t)` is put last.
 put_each-push : (ms : List (List ℕ × Tree)) (k : List ℕ) (t : Tree) (into : List (List ℕ × Tree))
     → put_each into (settled_pairs (members_of (ms ++ (k, t) ∷ []))) ≡ put (put_each into (settled_pairs (members_of ms))) k (settled t)
 put_each-push [] k t into = refl
 put_each-push (m ∷ ms) k t into = put_each-push ms k t (put into m.0 (settled m.1))
 
--- settling one more member puts it after those before
+-- If settling the members `ms` yields `now`, settling `ms` and `(k, t)` sets `k` in `now` to the
+-- settled `t`.
 pub settled-put : (ms : List (List ℕ × Tree)) (k : List ℕ) (t : Tree) (now : List (List ℕ × Tree))
     → now ≡ put_each [] (settled_pairs (members_of ms))
     → put now k (settled t) ≡ put_each [] (settled_pairs (members_of (ms ++ (k, t) ∷ [])))

@@ -1,4 +1,4 @@
--- The cache while a text is read.
+-- Lemmas about the strings in the cache while a text is read.
 use Rattle.std.proofs.Common.{◌≡◌, ℕ, Bool, true, false, List, [], ◌∷◌, ◌++◌, length, refl, sym, ap, ◌∙◌, append_assoc, inl}
 use Rattle.std.proofs.Common.{inr}
 use Rattle.std.specs.Prelude.{◌||◌, ◌&&◌, ltb, if◌then◌else◌}
@@ -20,16 +20,17 @@ use Rattle.ijson_json.proofs.reading.StringContent.{string_first}
 use Rattle.ijson_json.specs.AddsOnlyRead.{IsSpelledIn, AddsOnlyRead}
 use Rattle.ijson_json.specs.AreShared.{IsShared, AreShared, ItemsAreShared, MembersAreShared}
 
--- nothing was read into the cache
+-- `AddsOnlyRead` holds for an unchanged cache.
 pub adds_none : (text : List ℕ) (cache : Texts) → AddsOnlyRead text cache cache
 adds_none text cache = record { kept = λ s h. h; added = λ s h. inl h }
 
--- a slice of the rest is one of the text
+-- A string that a slice of `rest` spells is spelled by a slice of `head ++ rest`.
 spelled_behind : (text head rest s : List ℕ) → text ≡ head ++ rest → IsSpelledIn rest s → IsSpelledIn text s
 spelled_behind text head rest s e (before, body, after, b, f) =
     (head ++ before, body, after, b, e ∙ ap (λ (l : List ℕ). head ++ l) f ∙ sym (append_assoc head before (body ++ after)))
 
--- more was read after the head
+-- If the cache gains only strings of `text`, and then only strings of its end `rest`, it gains only
+-- strings of `text` in total.
 pub adds_more : (text head rest : List ℕ) (old middle new : Texts) → text ≡ head ++ rest → AddsOnlyRead text old middle
     → AddsOnlyRead rest middle new → AddsOnlyRead text old new
 adds_more text head rest old middle new e a b = record {
@@ -37,11 +38,13 @@ adds_more text head rest old middle new e a b = record {
   added = λ s h. elim (b.added s h) [ inl m ↦ a.added s m | inr p ↦ inr (p.0, spelled_behind text head rest s e p.1) ];
 }
 
--- nothing of leading white space was read into the cache
+-- If the cache gains only strings of the text after leading white space, it gains only strings of
+-- the text.
 pub adds_behind : {text start : List ℕ} {old new : Texts} → Skips text start → AddsOnlyRead start old new → AddsOnlyRead text old new
 adds_behind {text} {start} {old} {new} s a = adds_more text s.space start old old new s.is (adds_none text old) a
 
--- more was read after a key
+-- If the cache gains only strings of `text`, and then only strings of the text after the key, it
+-- gains only strings of `text` in total.
 pub adds_behind_key : {k text cur : List ℕ} {old middle new : Texts} → KeyRead k text cur → AddsOnlyRead text old middle
     → AddsOnlyRead cur middle new → AddsOnlyRead text old new
 adds_behind_key {k} {text} {cur} {old} {middle} {new} r a b =
@@ -49,7 +52,7 @@ adds_behind_key {k} {text} {cur} {old} {middle} {new} r a b =
 
 -- ---- interning a string
 
--- the contents of a cache with one more string, if it is long
+-- The cache after interning `s` contains the old strings, and `s` if it has more than 7 bytes.
 interned_contains : (cache : Texts) (s q : List ℕ)
     → set.contains (interned s cache).texts q ≡ (ltb 7 (length s) && bytes_eq q s || set.contains cache.texts q)
 interned_contains cache s q = elim (ltb 7 (length s)) as (λ b. set.contains (if b then set.insert cache.texts s else cache.texts) q
@@ -59,7 +62,7 @@ interned_contains cache s q = elim (ltb 7 (length s)) as (λ b. set.contains (if
       | false ↦ refl
     ]
 
--- interning a string that the text spells adds only strings of the text
+-- Interning a string that the text spells adds only strings of the text.
 interned_adds : (text : List ℕ) (cache : Texts) (s : List ℕ) → IsSpelledIn text s → AddsOnlyRead text cache (interned s cache)
 interned_adds text cache s p = record {
   kept = λ q h. interned_contains cache s q ∙ or_right _ (set.contains cache.texts q) h;
@@ -69,25 +72,25 @@ interned_adds text cache s p = record {
   ];
 }
 
--- the leading string was interned
+-- Interning the leading string adds only strings of the text.
 pub string_adds : (text rest s : List ℕ) (old new : Texts) → Front (λ front. IsString s front) text rest → new ≡ interned s old
     → AddsOnlyRead text old new
 string_adds text rest s old new f e =
     rw e (interned_adds text old s (34 ∷ [], f.holds.0, 34 ∷ rest, f.holds.1, string_first text s rest f))
 
--- and is shared
+-- After `s` was interned, the cache contains `s` or `s` has at most 7 bytes.
 pub string_shared : (s : List ℕ) (old new : Texts) → new ≡ interned s old → IsShared new s
 string_shared s old new e long = rw (e, interned_contains old s s, lt-ltb 7 (length s) long, (bytes_eq-Decides s s).1 refl) refl
 
--- ---- shared strings remain shared
+-- ---- a cache keeps its strings
 
 module _ {text : List ℕ} {old new : Texts} (g : AddsOnlyRead text old new) where
-  -- a shared string remains shared
+  -- If the old cache contains a long string, so does the new cache.
   pub shared_more : (s : List ℕ) → IsShared old s → IsShared new s
   shared_more s h long = g.kept s (h long)
 
   mutual
-    -- and so does a tree
+    -- If the old cache contains the long strings of a tree, so does the new cache.
     tree_more : (t : Tree) → AreShared old t → AreShared new t
     tree_more (string s) h = shared_more s h
     tree_more (array is) h = items_more is h
@@ -102,20 +105,23 @@ module _ {text : List ℕ} {old new : Texts} (g : AddsOnlyRead text old new) whe
     members_more no_members h = tt
     members_more (member k t more) h = (shared_more k h.0, tree_more t h.1, members_more more h.2)
 
--- ---- one more element, one more member
+-- ---- pushing an element, putting a member
 
--- one more element
+-- If a cache contains the long strings of `vs` and of `v`, it contains the long strings of
+-- `vs ++ v ∷ []`.
 items_push : (cache : Texts) (vs : List WellFormed) (v : WellFormed) → ItemsAreShared cache (item_trees vs) → AreShared cache v.tree
     → ItemsAreShared cache (item_trees (vs ++ v ∷ []))
 items_push cache [] v h g = (g, tt)
 items_push cache (w ∷ vs) v h g = (h.0, items_push cache vs v h.1 g)
 
--- an element pushed after shared ones
+-- If the old cache contains the long strings of `vs`, and the new cache contains those of `v`, the
+-- new cache contains the long strings of both.
 pub item_shared : (text : List ℕ) (old new : Texts) (vs : List WellFormed) (v : WellFormed) → AddsOnlyRead text old new
     → ItemsAreShared old (item_trees vs) → AreShared new v.tree → ItemsAreShared new (item_trees (vs ++ v ∷ []))
 item_shared text old new vs v adds h g = items_push new vs v (items_more adds (item_trees vs) h) g
 
--- one more member
+-- If a cache contains the long strings of `ps`, `k` and `v`, it contains the long strings of `ps`
+-- after `k` is set to `v`.
 members_put : (cache : Texts) (ps : List (List ℕ × WellFormed)) (k : List ℕ) (v : WellFormed) → MembersAreShared cache (pair_trees ps)
     → IsShared cache k → AreShared cache v.tree → MembersAreShared cache (pair_trees (put ps k v))
 members_put cache [] k v h i g = (i, g, tt)
@@ -123,7 +129,8 @@ members_put cache (p ∷ ps) k v h i g =
     elim (bytes_eq p.0 k) as (λ b. MembersAreShared cache (pair_trees (if b then (p.0, v) ∷ ps else p ∷ put ps k v)))
     [ true ↦ (h.0, g, h.2) | false ↦ (h.0, h.1, members_put cache ps k v h.2 i g) ]
 
--- a member put among shared ones
+-- If the old cache contains the long strings of `ps`, and the new cache contains those of `p`, the
+-- new cache contains the long strings of both.
 pub member_shared : (text : List ℕ) (old new : Texts) (ps : List (List ℕ × WellFormed)) (p : List ℕ × WellFormed)
     → AddsOnlyRead text old new → MembersAreShared old (pair_trees (put_each [] ps)) → IsShared new p.0 × AreShared new p.1.tree
     → MembersAreShared new (pair_trees (put_each [] (ps ++ p ∷ [])))

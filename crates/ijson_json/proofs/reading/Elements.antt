@@ -1,4 +1,4 @@
--- An array or object that is read element by element.
+-- Lemmas about reading an array or object element by element.
 use Rattle.std.proofs.Common.{◌≡◌, ℕ, suc, ◌+◌, ◌<◌, ◌≤◌, true, false, List, [], ◌∷◌, ◌++◌, refl, sym, ap, ap₂, subst}
 use Rattle.std.proofs.Common.{◌∙◌, append_assoc, arith}
 use Rattle.std.specs.Prelude.{◌&&◌, ◌==◌, ◌⊎◌}
@@ -14,7 +14,7 @@ use Rattle.ijson_json.proofs.reading.ElementLists.{deepest, all_ranged, deepest-
 use Rattle.ijson_json.proofs.grammar.CommaLists.{IsList, Shape, At, ElementSame, first_same, at_elements, space-Stops, Ends-any}
 use Rattle.ijson_json.specs.Limits.{max_depth}
 
--- how elements form a value
+-- Describes a container of the elements `E`: its brackets, its value, and how its text is read.
 pub record Listing (E : Type 0) (S : Shape E) : Type 1 where
   pub opening : ℕ
   pub wrap : List E → Tree
@@ -32,7 +32,7 @@ pub record Listing (E : Type 0) (S : Shape E) : Type 1 where
   pub placed : (opened : ℕ) (before parts space : List ℕ) → IsValuePlace opened before → EachWithComma IsPart parts → IsSpace space
       → IsPlace (opened + 1) (before ++ opening ∷ (parts ++ space))
 
--- one more text and its comma
+-- Appending a text with the property `P` and a comma keeps `EachWithComma P`.
 each_push : {P : List ℕ → Type 0} {parts : List ℕ} (part : List ℕ) → EachWithComma P parts → P part
     → EachWithComma P (parts ++ (part ++ 44 ∷ []))
 each_push part no_comma p = comma_after p no_comma
@@ -40,19 +40,23 @@ each_push part (comma_after {first} {more} q each) p =
     rw (append_assoc first (44 ∷ more) (part ++ 44 ∷ [])) (comma_after q (each_push part each p))
 
 module _ (E : Type 0) (S : Shape E) (L : Listing E S) where
-  -- any value at the start of the text, after the elements `found` of it were read
+  -- Holds if the value `t` consists of the elements `found`, and of further elements that begin at
+  -- `cur`.
   pub record Goes (found : List E) (t : Tree) (cur x : List ℕ) : Type 0 where
     pub next : E
     pub more : List E
     pub is : t ≡ L.wrap (found ++ next ∷ more)
     pub at : At E S next more cur x
 
-  -- an element has a first byte
+  -- Two texts that begin with the same element begin with the same byte.
   element_starts : (e : E) (text x y : List ℕ) → S.Is e text → StartsAs (text ++ x) (text ++ y)
   element_starts e [] x y h = absurd (let clash : true ≡ false = S.past_space e [] (32 ∷ []) h in cc)
   element_starts e (b ∷ text) x y h = (text ++ y, refl)
 
-  -- The elements `found` were read, and another begins at cur. Each text that begins like the one read so far continues like this.
+  -- Holds if the elements `found` of a container were read, and the next element begins at `cur`.
+  --
+  -- - `builds`: any further elements and the closing bracket complete the container.
+  -- - `only`: each value that begins like the text read so far contains the elements `found`.
   pub record Reached (opened : ℕ) (text : List ℕ) (found : List E) (cur : List ℕ) : Type 0 where
     pub parts : List ℕ
     pub space : List ℕ
@@ -68,7 +72,8 @@ module _ (E : Type 0) (S : Shape E) (L : Listing E S) where
     pub deep : opened + suc (deepest E S found) ≤ max_depth
     pub ranged : all_ranged E S found ≡ true
 
-  -- after the opening bracket and white space, nothing is read yet
+  -- After the opening bracket and white space, no element is read, and the first element begins at
+  -- `cur`.
   pub reached_start : (opened : ℕ) (inside s cur : List ℕ) → opened < max_depth → inside ≡ s ++ cur → IsSpace s → Past is_space cur
       → Past (λ b. b == S.closing) cur → Reached opened (L.opening ∷ inside) [] cur
   reached_start opened inside s cur o e h p q = record {
@@ -100,7 +105,7 @@ module _ (E : Type 0) (S : Shape E) (L : Listing E S) where
         at = at_elements E S u more s next i x h (starts_past is_space cur next starts p) v g;
       }
 
-  -- no elements
+  -- An opening bracket, white space and the closing bracket are read as an empty container.
   pub empty_read : (opened : ℕ) (inside start rest : List ℕ) → opened < max_depth → Skips inside start → start ≡ S.closing ∷ rest
       → IsRead opened (L.opening ∷ inside) (L.wrap []) rest
   empty_read opened inside start rest o s e = record {
@@ -116,24 +121,26 @@ module _ (E : Type 0) (S : Shape E) (L : Listing E S) where
 
 module _ {E : Type 0} {S : Shape E} {L : Listing E S} {opened : ℕ} {text cur after : List ℕ} {found : List E} {t : E}
     (r : Reached E S L opened text found cur) (d : ElementRead E S (opened + 1) cur t after) where
-  -- the element read is the one that is there, in each text that continues so that the element ends
+  -- The element at the start of a text is the element `t` that was read, if the text continues so
+  -- that `t` ends there.
   item_is : (e : E) (more : List E) (x s tail : List ℕ) → (a : At E S e more (d.found.front ++ (s ++ tail)) x) → IsSpace s
       → Past is_space tail → Ends (S.inner t) (s ++ tail) → (e ≡ t) × (a.tail ≡ tail)
   item_is e more x s tail a h p n =
       first_same E S e t more (d.found.front ++ (s ++ tail)) x d.found.front (s ++ tail) s tail (L.same e t) a d.found.holds n refl refl h p
 
-  -- the text continues with the element, and then as it may
+  -- A text that begins with the element `t` begins with the same byte as `cur`.
   goes_on : (rest : List ℕ) → StartsAs cur (d.found.front ++ rest)
   goes_on rest = rw d.found.is (element_starts E S L t d.found.front after rest d.found.holds)
 
-  -- one more element within the limits on depth and exponents
+  -- The elements read and one more element are within the nesting limit.
   push_depth : opened + suc (deepest E S (found ++ t ∷ [])) ≤ max_depth
   push_depth = omega (arith, deepest-append E S found (t ∷ []), r.deep, d.deep)
 
   push_ranged : all_ranged E S (found ++ t ∷ []) ≡ true
   push_ranged = ranged-append E S found (t ∷ []) ∙ ap₂ ◌&&◌ r.ranged (ap₂ ◌&&◌ d.ranged refl)
 
-  -- one more element was read, and a comma
+  -- If a comma follows an element, the element is added to the elements read, and the next element
+  -- begins after the comma.
   pub reached_more : {next : List ℕ} → GoesOn after next → Reached E S L opened text (found ++ t ∷ []) next
   reached_more {next} s = record {
     parts = r.parts ++ ((r.space ++ (d.found.front ++ s.gap)) ++ 44 ∷ []);
@@ -178,7 +185,7 @@ module _ {E : Type 0} {S : Shape E} {L : Listing E S} {opened : ℕ} {text cur a
             at = at_elements E S w ws s.gap' then others.0 x s.space' (starts_past is_space next then starts s.past) others.1 rest;
           }
 
-  -- the last element was read, and the closing bracket
+  -- If the closing bracket follows an element, the container is read, and this element is the last.
   pub reached_end : {rest : List ℕ} → Closes S.closing after rest → IsRead opened text (L.wrap (found ++ t ∷ [])) rest
   reached_end {rest} s = record {
     found = record {
@@ -191,7 +198,8 @@ module _ {E : Type 0} {S : Shape E} {L : Listing E S} {opened : ℕ} {text cur a
     ranged = L.ranged_is (found ++ t ∷ []) ∙ push_ranged;
   }
 
-  -- neither a comma nor the closing bracket follows: no value begins with these bytes and the next
+  -- If neither a comma nor the closing bracket follows an element, no value begins with the text up
+  -- to and including the next byte.
   pub reached_stuck : {left : List ℕ} (s : IsStuck S.closing after left) (t' : Tree) (next x : List ℕ) → StartsAs left next
       → Front (λ value. IsValue t' value) (r.head ++ (d.found.front ++ (s.skipped.space ++ next))) x → ⊥
   reached_stuck {left} s t' next x starts g =

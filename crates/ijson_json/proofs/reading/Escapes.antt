@@ -1,4 +1,4 @@
--- Leading escapes of a text: a hexadecimal digit, four hexadecimal digits, one escape, a surrogate pair.
+-- Lemmas about leading escapes: hexadecimal digits, codes, surrogate pairs and whole escapes.
 use Rattle.std.proofs.Common.{◌≡◌, ℕ, ◌+◌, ◌*◌, ◌<◌, ◌≤◌, false, cond, List, [], ◌∷◌, ◌++◌, length, get_or, drop, Option, Some, None, refl, sym}
 use Rattle.std.proofs.Common.{ap, ◌∙◌, append_assoc, arith, inl, inr}
 use Rattle.std.specs.Prelude.{IsTrue, ◌||◌, ◌==◌, ◌⊎◌, ◌≢◌, nat_lt}
@@ -14,46 +14,47 @@ use Rattle.ijson_json.specs.private.StringReading.{hex_code, HexAt, CharacterAt,
 use Rattle.ijson_json.proofs.scanning.Prefixes.{not_both, past_first, heads, tails}
 use Rattle.ijson_json.proofs.grammar.StringBodies.{four_digits, hex_same}
 
--- ---- the start of a text
+-- ---- prefixes and short escapes
 
--- if `strip_prefix` returns `rest`, the text is `prefix ++ rest`
+-- If stripping `prefix` from `text` returns `rest`, `text` is `prefix ++ rest`.
 pub strips_text : (prefix text rest : List ℕ) → StripsPrefix (FindsTextPrefix prefix) text rest → text ≡ prefix ++ rest
 strips_text prefix text rest (n, at, e, f) = at.1 ∙ ap (λ (l : List ℕ). prefix ++ l) (sym e)
 
--- a letter of a short escape is ASCII
+-- The letter of a short escape is ASCII.
 short_ascii : (b m : ℕ) → short_escape b ≡ Some m → b < 128
 unfolding short_escape
 short_ascii b m h = grind (arith, nat_tests)
 
--- the byte that a letter denotes, or a full stop
+-- The byte that the letter denotes after a backslash, or `.` if the escape is invalid.
 abbrev pub meaning_of : ℕ → ℕ
 meaning_of b =
     cond ((b == 34) || ((b == 92) || (b == 47))) b
     (cond (b == 98) 8 (cond (b == 102) 12 (cond (b == 110) 10 (cond (b == 114) 13 (cond (b == 116) 9 46)))))
 
--- if `meaning_of b` is not a full stop, the letter `b` denotes it, and it is ASCII
+-- If `meaning_of b` is not `.`, the letter `b` denotes this byte, which is ASCII.
 pub meaning_found : (b : ℕ) → meaning_of b ≢ 46 → (short_escape b ≡ Some (meaning_of b)) × (meaning_of b < 128)
 unfolding short_escape
 meaning_found b h = (grind (arith, nat_tests), grind (arith, nat_tests))
 
--- if `meaning_of b` is a full stop, the letter `b` denotes no byte
+-- If `meaning_of b` is `.`, the letter `b` is not the letter of an escape.
 pub meaning_none : (b : ℕ) → meaning_of b ≡ 46 → short_escape b ≡ None
 unfolding short_escape
 meaning_none b h = grind (arith, nat_tests)
 
 -- ---- four digits
 
--- a digit is below 16, and ASCII
+-- The value of a hexadecimal digit is below 16, and the digit is ASCII.
 pub digit_small : (b d : ℕ) → hex_digit b ≡ Some d → (d < 16) × (b < 128)
 unfolding hex_digit
 digit_small b d h = (grind (arith, nat_tests), grind (arith, nat_tests))
 
--- a code below 65536 is the value of a hexadecimal digit
+-- A code below 65536 is the value of a hexadecimal digit.
 pub code_digit : (o : Option ℕ) (v : ℕ) → v ≡ hex_code o → v < 65536 → o ≡ Some v
 code_digit (Some d) v is less = ap Some (sym is)
 code_digit None v is less = absurd (omega arith)
 
--- four digits, and the text after them
+-- If the sum of four codes is below 65536, the text begins with four hexadecimal digits of this
+-- value.
 pub hex_at : (text bytes rest : List ℕ) (x y z w : ℕ) → bytes ≡ text → 4 ≤ length bytes → rest ≡ drop 4 text
     → x ≡ hex_code (hex_digit (get_or bytes 0 0)) → y ≡ hex_code (hex_digit (get_or bytes 1 0))
     → z ≡ hex_code (hex_digit (get_or bytes 2 0)) → w ≡ hex_code (hex_digit (get_or bytes 3 0))
@@ -67,7 +68,7 @@ hex_at text (a ∷ b ∷ c ∷ d ∷ more) rest x y z w t l e f g h i less =
     )
 hex_at text bytes rest x y z w t l e f g h i less = absurd (omega arith)
 
--- if the sum is too large, one of four bytes is not a digit
+-- If the sum of four codes is at least 65536, the text does not begin with four hexadecimal digits.
 pub no_hex : (text bytes : List ℕ) (x y z w : ℕ) → bytes ≡ text
     → x ≡ hex_code (hex_digit (get_or bytes 0 0)) → y ≡ hex_code (hex_digit (get_or bytes 1 0))
     → z ≡ hex_code (hex_digit (get_or bytes 2 0)) → w ≡ hex_code (hex_digit (get_or bytes 3 0))
@@ -82,12 +83,12 @@ no_hex text bytes x y z w t f g i j over u rest (h, hex, e) =
 
 -- ---- after a backslash and `u`
 
--- `u` is not a letter of a short escape
+-- `u` is not the letter of a short escape.
 short_u : (c : ℕ) → short_escape 117 ≡ Some c → ⊥
 unfolding short_escape
 short_u c h = absurd cc
 
--- a unit alone, or two
+-- Holds if the code after `\u` is not a surrogate, so that the code alone is a character.
 pub record Alone (text m rest : List ℕ) : Type 0 where
   pub u : ℕ
   pub hex : HexAt text u rest
@@ -103,7 +104,7 @@ pub record Both (text m rest : List ℕ) : Type 0 where
   pub other : Hex l v
   pub low : IsTrue (is_low_surrogate v)
 
--- after `\u` there is one code, or the codes of a pair
+-- The character after `\u` is one code, or the two codes of a surrogate pair.
 unit_cases : (text m rest : List ℕ) → CharacterAt (92 ∷ 117 ∷ text) m rest → Alone text m rest ⊎ Both text m rest
 unit_cases text m rest (w, c, e) = go c e
   where
@@ -121,15 +122,15 @@ unit_cases text m rest (w, c, e) = go c e
       low = k;
     })
 
--- a `\u` without four hexadecimal digits after it begins no character
+-- If four hexadecimal digits do not follow `\u`, a character does not begin at `\u`.
 pub no_unicode : (text : List ℕ) → NoHex text → NoCharacter (92 ∷ 117 ∷ text)
 no_unicode text n m rest a = elim (unit_cases text m rest a) [ inl o ↦ n o.u rest o.hex | inr b ↦ n b.u (92 ∷ 117 ∷ (b.l ++ rest)) b.hex ]
 
--- four leading hexadecimal digits have only one value
+-- The value of four leading hexadecimal digits, and the text after them, are unique.
 hex_at_same : (text : List ℕ) (u v : ℕ) (r s : List ℕ) → HexAt text u r → HexAt text v s → (u ≡ v) × (r ≡ s)
 hex_at_same text u v r s (h, x, e) (l, y, f) = let same = hex_same h l u v r s x y (sym e ∙ f) in (same.0, same.1.1)
 
--- a high surrogate must be followed by a low one
+-- A high surrogate without the escape of a low surrogate after it is not a character.
 pub no_low : (text : List ℕ) (u : ℕ) (rest : List ℕ) → HexAt text u rest → IsTrue (is_high_surrogate u) → NoLow rest
     → NoCharacter (92 ∷ 117 ∷ text)
 no_low text u rest h i n m other a = elim (unit_cases text m other a) [
@@ -137,7 +138,7 @@ no_low text u rest h i n m other a = elim (unit_cases text m other a) [
   | inr b ↦ n b.l b.v other b.other b.low (hex_at_same text u b.u rest _ h b.hex).1
 ]
 
--- a low surrogate alone is not a character
+-- A low surrogate without a high surrogate before it is not a character.
 pub no_alone : (text : List ℕ) (u : ℕ) (rest : List ℕ) → HexAt text u rest → is_high_surrogate u ≡ false → IsTrue (is_low_surrogate u)
     → NoCharacter (92 ∷ 117 ∷ text)
 no_alone text u rest h i j m other a = elim (unit_cases text m other a) [
@@ -145,39 +146,41 @@ no_alone text u rest h i j m other a = elim (unit_cases text m other a) [
   | inr b ↦ not_both (is_high_surrogate u) (rw (← (hex_at_same text u b.u rest _ h b.hex).0) at b.high) i
 ]
 
--- a code that is not a surrogate is a character
+-- The escape of a code that is not a surrogate spells a character.
 pub found_alone : (text : List ℕ) (u : ℕ) (rest : List ℕ) → HexAt text u rest → is_high_surrogate u ≡ false → is_low_surrogate u ≡ false
     → CharacterAt (92 ∷ 117 ∷ text) (encode_utf8 u) rest
 found_alone text u rest (h, x, e) i j = (92 ∷ 117 ∷ h, unicode x i j, ap (λ (l : List ℕ). 92 ∷ 117 ∷ l) e)
 
--- a pair of surrogates is a character
+-- The escapes of a high surrogate and a low surrogate spell one character.
 pub found_both : (text : List ℕ) (u : ℕ) (rest m other : List ℕ) → HexAt text u rest → IsTrue (is_high_surrogate u) → LowAt u rest m other
     → CharacterAt (92 ∷ 117 ∷ text) m other
 found_both text u rest m other (h, x, e) i (l, v, y, j, f, g) =
     rw g (92 ∷ 117 ∷ (h ++ 92 ∷ 117 ∷ l), pair x i y j, rw (e, f) (simp append_assoc))
 
--- a `\u` without four hexadecimal digits after it is not a low surrogate
+-- If four hexadecimal digits do not follow `\u`, the escape of a low surrogate does not begin at
+-- `\u`.
 pub no_low_hex : (text behind : List ℕ) → text ≡ 92 ∷ 117 ∷ behind → NoHex behind → NoLow text
 no_low_hex text behind e n l v rest h i f = n v rest (l, h, tails _ _ _ _ (tails _ _ _ _ (sym e ∙ f)))
 
--- a scalar value is not a low surrogate
+-- A Unicode scalar value is not a low surrogate.
 pub scalar_not_low : (u : ℕ) → InScalarRange u → is_low_surrogate u ≡ false
 scalar_not_low u (inl h) = grind (arith, nat_tests)
 scalar_not_low u (inr h) = let a : 0xE000 ≤ u = omega arith in grind (arith, nat_tests)
 
--- a code of four digits that is neither scalar nor high is a low surrogate
+-- A code below 65536 that is neither a Unicode scalar value nor a high surrogate is a low
+-- surrogate.
 pub not_scalar_low : (u : ℕ) → OutOfScalarRange u → u < 65536 → is_high_surrogate u ≡ false → IsTrue (is_low_surrogate u)
 not_scalar_low u o h i = grind (arith, nat_tests)
 
--- ---- after a backslash, and at the start
+-- ---- an escape
 
--- a short escape is a character
+-- A backslash and the letter of a short escape spell a character.
 pub escape_found : (text letters rest : List ℕ) (c m : ℕ) → text ≡ 92 ∷ letters → letters ≡ c ∷ rest → short_escape c ≡ Some m → m < 128
     → CharacterAt text (encode_utf8 m) rest
 escape_found text letters rest c m e f h ascii =
     rw (encode_ascii m ascii) (92 ∷ c ∷ [], short h, rw f at e)
 
--- no escape has a letter beyond ASCII
+-- If the letter after the backslash is not ASCII, the text does not begin with an escape.
 pub escape_wide : (text letters : List ℕ) → text ≡ 92 ∷ letters → Past (λ b. nat_lt b 128) letters → NoEscape text
 escape_wide text letters t past others g m more (w, c, e) = go c (sym t ∙ e)
   where

@@ -1,4 +1,4 @@
--- The values stored for the elements of an array and the members of an object, as they are read.
+-- The stored values of elements and members while an array or object is read.
 use Rattle.std.proofs.Common.{◌≡◌, ℕ, List, [], ◌∷◌, ◌++◌, map, refl}
 use Rattle.std.proofs.lemmas.List.{map-append}
 use Rattle.ijson_table.specs.Store.{put_each}
@@ -13,13 +13,13 @@ use Rattle.ijson_json.proofs.reading.ArraysAndObjects.{arrays, objects, settled-
 use Rattle.ijson_json.proofs.reading.CacheContents.{item_shared, member_shared}
 use Rattle.ijson_json.proofs.reading.Gathering.{Gathers}
 
--- an element pushed after those read
+-- Pushing the value of the element `t` onto the values of `ts` yields the values of `ts` and `t`.
 pub item_pushed : (vs : List WellFormed) (ts : List Tree) (v : WellFormed) (t : Tree) → v.tree ≡ settled t
     → item_trees vs ≡ settled_items (items_of ts) → item_trees (vs ++ v ∷ []) ≡ settled_items (items_of (ts ++ t ∷ []))
 item_pushed vs ts v t e h =
     rw (map-append tree_of vs (v ∷ []), e) (settled-push ts t (map tree_of vs) h)
 
--- the stored form of an element is its value
+-- The `Gathers` of arrays: an element is stored as its value.
 abbrev pub kept_items : Gathers Tree items_shape arrays
 kept_items = record {
   Kept = WellFormed;
@@ -33,21 +33,24 @@ kept_items = record {
   share = item_shared;
 }
 
--- a stored key and value, and the member they are of
+-- Holds if the stored key is the key of the member, and the stored value is the value with
+-- duplicate keys resolved.
 abbrev pub KeepsMember : List ℕ × WellFormed → List ℕ × Tree → Type 0
 KeepsMember p m = (p.0 ≡ m.0) × (p.1.tree ≡ settled m.1)
 
--- the stored entries, put in order, are the members as written, put in order
+-- Holds if the stored members and the members as written form the same object after duplicate keys
+-- are resolved.
 abbrev pub AreMembers : List (List ℕ × WellFormed) → List (List ℕ × Tree) → Type 0
 AreMembers ps ms = map pair_tree (put_each [] ps) ≡ put_each [] (settled_pairs (members_of ms))
 
--- a member put after those read
+-- If `ps` stores the members `ms`, and `p` stores the member `m`, then `ps` and `p` store `ms` and
+-- `m`.
 pub member_put : (ps : List (List ℕ × WellFormed)) (ms : List (List ℕ × Tree)) (p : List ℕ × WellFormed) (m : List ℕ × Tree)
     → KeepsMember p m → AreMembers ps ms → AreMembers (ps ++ p ∷ []) (ms ++ m ∷ [])
 member_put ps ms (k, v) (l, t) (same, e) h =
     rw (put_each-append [] ps ((k, v) ∷ []), put-trees (put_each [] ps) k v, e, same) (settled-put ms l t (map pair_tree (put_each [] ps)) h)
 
--- the stored form of a member is its key and its value
+-- The `Gathers` of objects: a member is stored as its key and its value.
 abbrev pub kept_members : Gathers (List ℕ × Tree) members_shape objects
 kept_members = record {
   Kept = List ℕ × WellFormed;

@@ -1,4 +1,5 @@
--- The elements of an array or object as they are read: their stored values are on a stack, above those of outer containers.
+-- The elements of an array or object while they are read. Their stored values are on a stack, above
+-- the values of outer containers.
 use Rattle.std.proofs.Common.{◌≡◌, ℕ, ◌+◌, ◌<◌, List, [], ◌∷◌, ◌++◌, length, take, drop, sym, ap, ◌∙◌, append_assoc, append-nil}
 use Rattle.std.specs.Prelude.{◌==◌, Result, IsErrAnd}
 use Rattle.std.specs.Borrow.{Bor}
@@ -18,7 +19,11 @@ use Rattle.ijson_json.proofs.reading.CacheContents.{adds_none, adds_more}
 use Rattle.ijson_json.proofs.reading.ElementLists.{ElementRead}
 use Rattle.ijson_json.proofs.reading.Elements.{Listing, Reached, reached_start, reached_more, reached_end}
 
--- the stored value of an element, and the relation between a list of these and the elements as written
+-- Describes how elements are stored: the stored type, and its relation to the elements as written.
+--
+-- - `Keeps`, `Are`: relate a stored value, or a list of stored values, to the elements as written.
+-- - `Shares`, `AllShare`: the cache contains the long strings of a stored value, or of a list of
+--   stored values.
 pub record Gathers (E : Type 0) (S : Shape E) (L : Listing E S) : Type 1 where
   pub Kept : Type 0
   pub Keeps : Kept → E → Type 0
@@ -33,7 +38,8 @@ pub record Gathers (E : Type 0) (S : Shape E) (L : Listing E S) : Type 1 where
       → Shares new k → AllShare new (kept ++ k ∷ [])
 
 module _ (E : Type 0) (S : Shape E) (L : Listing E S) (K : Gathers E S L) where
-  -- some elements were read, and another begins at the rest
+  -- Holds if some elements were read and stored on the stack, and the next element begins at
+  -- `rest`.
   pub record Gathered (opened : ℕ) (text rest : List ℕ) (below stack : List K.Kept) (old cache : Texts) : Type 0 where
     pub kept : List K.Kept
     pub above : stack ≡ below ++ kept
@@ -43,7 +49,7 @@ module _ (E : Type 0) (S : Shape E) (L : Listing E S) (K : Gathers E S L) where
     pub adds : AddsOnlyRead text old cache
     pub share : K.AllShare cache kept
 
-  -- after the opening bracket and white space
+  -- After the opening bracket and white space, no element is stored.
   pub gathered_start : (opened : ℕ) (inside cur : List ℕ) (below : List K.Kept) (cache : Texts) → opened < max_depth
       → Skips inside cur → Past (λ b. b == S.closing) cur → Gathered opened (L.opening ∷ inside) cur below below cache cache
   gathered_start opened inside cur below cache within s unclosed = record {
@@ -59,11 +65,13 @@ module _ (E : Type 0) (S : Shape E) (L : Listing E S) (K : Gathers E S L) where
 module _ {E : Type 0} {S : Shape E} {L : Listing E S} {K : Gathers E S L}
     {opened : ℕ} {text rest : List ℕ} {below stack : List K.Kept} {old cache : Texts}
     (i : Gathered E S L K opened text rest below stack old cache) where
-  -- strings that one more element adds to the cache are strings of the text
+  -- If reading one more element adds only strings of `rest` to the cache, the cache gains only
+  -- strings of `text`.
   pub gathered_adds : {new : Texts} → AddsOnlyRead rest cache new → AddsOnlyRead text old new
   gathered_adds {new} adds = adds_more text i.reached.head rest old cache new i.reached.is i.adds adds
 
-  -- the result at the exit of a `?`
+  -- If reading one more element fails, and `Explains` holds for the fault, reading the container
+  -- fails with the same fault.
   pub gathered_refused : {r : Result (WellFormed × Bor (List ℕ)) Fault} {new : Texts} {before after : Scratch} (fault : Fault)
       → IsErrAnd r (λ e. e ≡ fault) → AddsOnlyRead rest cache new → Explains opened text fault
       → ReadsValue opened text r old new before after
@@ -76,7 +84,8 @@ module _ {E : Type 0} {S : Shape E} {L : Listing E S} {K : Gathers E S L}
     above : pushed ≡ below ++ (i.kept ++ k ∷ [])
     above = push ∙ ap (λ l. l ++ k ∷ []) (same ∙ i.above) ∙ append_assoc below i.kept (k ∷ [])
 
-    -- one more element was read, and a comma
+    -- If a comma follows one more element, the element is stored, and the next element begins after
+    -- the comma.
     pub gathered_more : {next : List ℕ} → GoesOn after next → Gathered E S L K opened text next below pushed old new
     gathered_more comma = record {
       kept = i.kept ++ k ∷ [];
@@ -88,7 +97,10 @@ module _ {E : Type 0} {S : Shape E} {L : Listing E S} {K : Gathers E S L}
       share = K.share rest cache new i.kept k adds i.share shares;
     }
 
-    -- the last element and the bracket were read: the stored values are popped, and `below` is left
+    -- If the closing bracket follows the last element, the container is read and its stored values
+    -- are popped.
+    --
+    -- The stack `below` of outer containers is unchanged.
     pub gathered_end : {behind : List ℕ} {taken left : List K.Kept} {base : ℕ} → Closes S.closing after behind → base ≡ length below
         → taken ≡ drop base pushed → left ≡ take base pushed → record {
           read : IsRead opened text (L.wrap (i.written ++ e ∷ [])) behind;

@@ -1,4 +1,4 @@
--- A member of an object: a key, `:` and a value.
+-- Lemmas about a member of an object: a key, `:` and a value.
 use Rattle.std.proofs.Common.{◌≡◌, ℕ, List, ◌∷◌, ◌++◌, refl, sym, ◌∙◌, append_assoc}
 use Rattle.ijson_value.specs.Tree.{Tree}
 use Rattle.ijson_json.specs.Grammar.{is_space, IsValue}
@@ -7,13 +7,14 @@ use Rattle.ijson_json.proofs.scanning.Prefixes.{run_same, tails}
 use Rattle.ijson_json.proofs.grammar.OneTree.{string_same}
 use Rattle.ijson_json.proofs.grammar.FirstBytes.{value-past_space}
 
--- a leading member, part by part
+-- A text that begins with a member consists of a key, `:`, a value, white space around `:`, and the
+-- rest.
 pub pair_is : (m : List ℕ × Tree) (text rest : List ℕ) → (f : Front (λ text. Pair m text) text rest)
     → text ≡ f.holds.key ++ (f.holds.gap ++ 58 ∷ (f.holds.gap' ++ (f.holds.value ++ rest)))
 pair_is m text rest f = f.is ∙ rw (f.holds.is) (simp append_assoc)
 
 module _ {k text cur : List ℕ} (r : KeyRead k text cur) where
-  -- the key, `:`, the white space after each, and a value
+  -- The key that was read, `:` and a value form a member.
   pair_of : (t : Tree) (value : List ℕ) → IsValue t value → Pair (k, t) (r.key ++ (r.gap ++ 58 ∷ (r.gap' ++ value)))
   pair_of t value v = record {
     key = r.key;
@@ -27,7 +28,7 @@ module _ {k text cur : List ℕ} (r : KeyRead k text cur) where
     is = refl;
   }
 
-  -- a member whose value was read
+  -- If a value was read after the key, a member was read.
   pub member_read : {opened : ℕ} {t : Tree} {rest : List ℕ} → IsRead opened cur t rest
       → Found (List ℕ × Tree) (λ m text. Pair m text) (λ m. m.1) opened text (k, t) rest
   member_read {opened} {t} {rest} v = record {
@@ -37,7 +38,7 @@ module _ {k text cur : List ℕ} (r : KeyRead k text cur) where
     ranged = v.ranged;
   }
 
-  -- the value of a leading member begins at cur
+  -- The value of a leading member begins at `cur`, after the key that was read.
   pub value_of : (m : List ℕ × Tree) (rest : List ℕ) → Front (λ text. Pair m text) text rest → Front (λ value. IsValue m.1 value) cur rest
   value_of m rest f =
       let p = f.holds in
@@ -47,11 +48,11 @@ module _ {k text cur : List ℕ} (r : KeyRead k text cur) where
       (tails _ _ _ _ g.1) in
       record { front = p.value; holds = p.is_value; is = h.1 }
 
-  -- the value begins after the key, `:` and the white space after each
+  -- The text consists of the key, white space, `:`, white space, and `cur`.
   pub key_behind : text ≡ (r.key ++ (r.gap ++ 58 ∷ r.gap')) ++ cur
   key_behind = r.is ∙ simp append_assoc
 
--- each text continues with the same key, `:` and a value
+-- The same key can be read before any text without leading white space.
 pub key_again : {k text cur : List ℕ} (r : KeyRead k text cur) (next : List ℕ) → Past is_space next
     → KeyRead k ((r.key ++ (r.gap ++ 58 ∷ r.gap')) ++ next) next
 key_again r next p = record {

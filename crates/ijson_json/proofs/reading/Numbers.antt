@@ -1,4 +1,4 @@
--- The leading number of a text.
+-- Lemmas about the leading number of a text.
 use Rattle.std.proofs.Common.{◌≡◌, ℕ, ◌<◌, ◌≤◌, true, false, List, [], ◌∷◌, ◌++◌, get_or, length, take, drop, sym, ap}
 use Rattle.std.proofs.Common.{subst, ◌∙◌, arith, inl, inr}
 use Rattle.std.specs.Prelude.{IsTrue}
@@ -19,22 +19,23 @@ use Rattle.ijson_number.proofs.parsing.SpelledBytes.{spells_bytes}
 use Rattle.ijson_json.specs.private.Reading.{Stops, NumberAt, PastLimitAt}
 use Rattle.ijson_json.proofs.scanning.CharBoundaries.{behind_ascii}
 
--- a byte of a number is ASCII
+-- A byte of a number is ASCII.
 number_ascii : (b : ℕ) → is_number_byte b ≡ true → b < 128
 number_ascii b h = grind (arith, nat_tests)
 
--- each byte of a text that spells a number
+-- Each byte of a text that spells a number is a byte of a number.
 number_byte : (text : List ℕ) (n : Decimal) → Spells text n → (k : ℕ) → k < length text → is_number_byte (get_or text k 0) ≡ true
 number_byte text n s k l = All-from_recursion (λ b. IsTrue (is_number_byte b)) text (spells_bytes text n s) k 0 l
 
--- a text may be split after a leading number
+-- The end of a leading number is a character boundary.
 pub spelled_boundary : (text : List ℕ) (count : ℕ) (n : Decimal) → IsUtf8 text → count ≤ length text → Spells (take count text) n
     → IsCharBoundary text count
 spelled_boundary text count n u within s = behind_ascii text u count within
     (λ k h. number_ascii _ (rw (get_or-take count text k 0 h) at (number_byte (take count text) n s k
     (let e = length-take-le count text within in omega arith))))
 
--- a number ends before text that stops it
+-- A prefix that is not followed by a byte of a number is at least as long as the longest prefix
+-- that begins a number.
 not_inside : (text : List ℕ) (count : ℕ) → IsNumberFront text count → (front rest : List ℕ) → text ≡ front ++ rest → Stops rest
     → length front < count → ⊥
 not_inside text count f front [] is stops less = let within = f.within in omega (arith, less, within, ap length is ∙ length-append front [])
@@ -50,7 +51,8 @@ not_inside text count f front (b ∷ rest) is stops less =
     let clash : true ≡ false = sym (rw same at byte) ∙ stops in
     cc
 
--- a leading number that stops is as long as some number begins with the text
+-- A leading number that is not followed by a byte of a number is the longest prefix that begins a
+-- number.
 number_count : (text : List ℕ) (count : ℕ) → IsNumberFront text count → (n : Decimal) (rest : List ℕ) (a : NumberAt text n rest)
     → count ≡ length a.found.front
 number_count text count f n rest a =
@@ -69,7 +71,8 @@ number_taken text count f n rest a =
     let left : drop count text ≡ rest = ap (λ k. drop k text) e ∙ ap (drop (length front)) a.found.is ∙ drop-append_seam front rest in
     (subst (λ b. Spells b n) (sym taken) a.found.holds, left)
 
--- if the front is a number beyond the limit, each leading number is
+-- If the longest prefix that begins a number spells a number beyond the limit, each leading number
+-- is beyond the limit.
 pub past_limit : (text : List ℕ) (count : ℕ) → IsNumberFront text count → IsPastLimit (take count text) → PastLimitAt text
 past_limit text count f p = record {
   each = λ n rest a. subst (λ (m : Decimal). is_in_range m ≡ false)

@@ -1,4 +1,4 @@
--- The content of a string, run by run and escape by escape.
+-- Lemmas about reading the content of a string, run by run and escape by escape.
 use Rattle.std.proofs.Common.{◌≡◌, ℕ, true, false, List, [], ◌∷◌, ◌++◌, length, refl, sym, ap, ◌∙◌, append_assoc, eqb, inr}
 use Rattle.std.proofs.lemmas.Bool.{eqb-true}
 use Rattle.std.specs.Prelude.{◌≢◌}
@@ -13,21 +13,21 @@ use Rattle.ijson_json.specs.declared.fault.Fault.TheVariants as faults
 use Rattle.ijson_json.proofs.scanning.Prefixes.{Run, not_both, heads, heads_apart}
 use Rattle.ijson_json.proofs.grammar.StringBodies.{character_same, not_quote}
 
--- two concatenated bodies are one
+-- The concatenation of two string bodies is a string body.
 body-append : {a s b t : List ℕ} → StringBody a s → StringBody b t → StringBody (a ++ b) (s ++ t)
 body-append empty h = h
 body-append {b} {t} (one_more {written} {meant} {body} {text} d r) h =
     rw (append_assoc written body b, append_assoc meant text t) (one_more d (body-append r h))
 
--- a body and a character after it are one
+-- A string body followed by a character is a string body.
 pub body-push : {a s w m : List ℕ} → StringBody a s → Character w m → StringBody (a ++ w) (s ++ m)
 body-push {w} {m} h c = body-append h (rw (append-nil w, append-nil m) at (one_more c empty))
 
--- the text begins with the rest of a string, up to its quote and the text x
+-- Holds if `text` begins with the rest of a string, its closing quote, and then `x`.
 abbrev pub GoesOn : List ℕ → List ℕ → Type 0
 GoesOn text x = (s : List ℕ) × ContentAt text s x
 
--- after some of the characters of a string, the others
+-- If the characters `body` begin a string, the rest of the string follows `body`.
 pub content_behind : {body s i t : List ℕ} (rest x : List ℕ) → StringBody body s → StringBody i t → body ++ rest ≡ i ++ 34 ∷ x → GoesOn rest x
 content_behind {i = i} {t = t} rest x empty h e = (t, (i, h, e))
 content_behind rest x (one_more {written} {body = body} d r) empty e =
@@ -36,18 +36,20 @@ content_behind rest x (one_more {written} {body = body} d r) (one_more {written 
     let same = character_same (body ++ rest) (more ++ 34 ∷ x) d c (sym (append_assoc written body rest) ∙ e ∙ append_assoc other more (34 ∷ x)) in
     content_behind rest x r h same.1.1
 
--- the content s was read, and the rest of it begins here
+-- Holds if the content `s` was read from `text`, and `rest` is the unread part.
+--
+-- Each string body at the start of `text` continues at `rest`.
 pub record Reached (text s rest : List ℕ) : Type 0 where
   pub written : List ℕ
   pub body : StringBody written s
   pub is : text ≡ written ++ rest
   pub only : (t x : List ℕ) → ContentAt text t x → (t' : List ℕ) × ContentAt rest t' x
 
--- nothing is read yet
+-- At the start, empty content was read.
 pub reached_start : (text : List ℕ) → Reached text [] text
 reached_start text = record { written = []; body = empty; is = refl; only = λ t x h. (t, h) }
 
--- a run is followed by an escape, a quote, or a byte that no string contains
+-- A byte that must be escaped and is not a backslash does not begin a character.
 no_character : (b : ℕ) (more : List ℕ) → eqb b 92 ≡ false → is_unescaped b ≡ false → NoCharacter (b ∷ more)
 no_character b more n s m rest (w, c, e) = go c e
   where
@@ -55,12 +57,12 @@ no_character b more n s m rest (w, c, e) = go c e
     go (unescaped {b = d} h) e = not_both (is_unescaped b) (let f : d ≡ b = heads _ _ _ _ (sym e) in rw f at h) s
     go c e = heads_apart b 92 _ _ e n
 
--- a character has bytes
+-- The spelling of a character is not empty.
 pub character_bytes : {w m : List ℕ} (x : List ℕ) → Character w m → [] ≡ w ++ x → ⊥
 character_bytes x (unescaped {b} h) e = cc
 character_bytes x c e = cc
 
--- if a run is followed by no escape, it is followed by no character
+-- If the text after a run does not begin with an escape, it does not begin with a character.
 pub after_run : (rest : List ℕ) → Past is_unescaped rest → NoEscape rest → NoCharacter rest
 after_run [] p n = λ m x found. character_bytes x found.1 found.2
 after_run (b ∷ more) p n =
@@ -70,7 +72,7 @@ after_run (b ∷ more) p n =
     ] refl
 
 module _ {text s rest : List ℕ} (r : Reached text s rest) where
-  -- one more character is read
+  -- Reading one more character appends its bytes to the content.
   pub reached_character : {m more : List ℕ} → CharacterAt rest m more → Reached text (s ++ m) more
   reached_character {m} {more} (w, c, e) = record {
     written = r.written ++ w;
@@ -85,16 +87,16 @@ module _ {text s rest : List ℕ} (r : Reached text s rest) where
           let same = character_same more (body ++ 34 ∷ x) c d (sym e ∙ g ∙ append_assoc written body (34 ∷ x)) in
           (text, (body, h, same.1.1))
 
-  -- a quote ends the content
+  -- A closing quote at `rest` ends the content.
   pub reached_quote : {behind : List ℕ} → rest ≡ 34 ∷ behind → ContentAt text s behind
   reached_quote e = (r.written, r.body, r.is ∙ ap (λ (l : List ℕ). r.written ++ l) e)
 
-  -- content of the rest is content of the whole
+  -- If the content `t` and the closing quote are at `rest`, the whole content is `s ++ t`.
   pub reached_content : {t behind : List ℕ} → ContentAt rest t behind → ContentAt text (s ++ t) behind
   reached_content {t} {behind} (body, h, e) =
       (r.written ++ body, body-append r.body h, r.is ∙ rw e (sym (append_assoc r.written body (34 ∷ behind))))
 
-  -- the content stops here
+  -- If neither a character nor the closing quote is at `rest`, the content of `text` stops there.
   pub reached_stop : (left : ℕ) → left ≡ length rest → ((behind : List ℕ) → rest ≢ 34 ∷ behind) → NoCharacter rest → ContentStops text left
   reached_stop left is unclosed none = record {
     body = r.written;
@@ -107,7 +109,7 @@ module _ {text s rest : List ℕ} (r : Reached text s rest) where
     no_character = none;
   }
 
-  -- a fault in the rest is one of the whole
+  -- A fault in the content at `rest` is a fault in the content of `text`.
   pub reached_fault : (fault : Fault) → ContentFault rest fault → ContentFault text fault
   reached_fault (faults.Syntax left) h = record {
     body = r.written ++ h.body;
@@ -122,7 +124,7 @@ module _ {text s rest : List ℕ} (r : Reached text s rest) where
   reached_fault faults.Memory h = tt
   reached_fault fault h = absurd h
 
--- one more run is read
+-- Reading a run of unescaped bytes appends the run to the content.
 pub reached_run : {text s rest more : List ℕ} (run : List ℕ) → Reached text s rest → Run is_unescaped run → rest ≡ run ++ more
     → Reached text (s ++ run) more
 reached_run {text} {s} {rest} {more} [] r h e = rw (append-nil s) (rw e at r)
@@ -130,11 +132,11 @@ reached_run {text} {s} {rest} {more} (b ∷ run) r h e =
     let longer = reached_run run (reached_character r {more = run ++ more} (b ∷ [], unescaped h.0, e)) h.1 refl in
     rw (append_assoc s (b ∷ []) run) at longer
 
--- the content so far was read and appended
+-- Holds if `content` is `old` and the content read from `text` before `rest`.
 abbrev pub Appended : List ℕ → List ℕ → List ℕ → List ℕ → Type 0
 Appended text rest old content = (s : List ℕ) × Reached text s rest × (content ≡ old ++ s)
 
--- one more character and the run after it are read and appended
+-- Reading one more character and the run after it appends both to the content.
 pub appended_more : (text rest m more run after old content middle new : List ℕ) → Appended text rest old content → CharacterAt rest m more
     → middle ≡ content ++ m → more ≡ run ++ after → Run is_unescaped run → new ≡ middle ++ run → Appended text after old new
 appended_more text rest m more run after old content middle new (s, r, e) c f g h i =
@@ -142,17 +144,17 @@ appended_more text rest m more run after old content middle new (s, r, e) c f g 
 
 -- ---- the whole string
 
--- a leading string begins with a quote
+-- A text that begins with a string begins with a quote.
 pub string_first : (text s rest : List ℕ) (f : Front (λ front. IsString s front) text rest) → text ≡ 34 ∷ (f.holds.0 ++ 34 ∷ rest)
 string_first text s rest f = f.is ∙ rw (f.holds.2) (simp append_assoc)
 
--- a quote and a content make a string
+-- A quote, the content of a string and the closing quote are a string.
 pub string_found : (text inside s t rest : List ℕ) → text ≡ 34 ∷ inside → ContentAt inside s rest → t ≡ s
     → Front (λ front. IsString t front) text rest
 string_found text inside s t rest e (body, h, f) same =
     record { front = 34 ∷ (body ++ 34 ∷ []); holds = (body, rw same h, refl); is = rw (e, f) (simp append_assoc) }
 
--- a fault in the content is one of the string
+-- A fault in the content of a string is a fault of the string.
 pub no_string : (text inside : List ℕ) → text ≡ 34 ∷ inside → (fault : Fault) → ContentFault inside fault → StringFault text fault
 no_string text inside e (faults.Syntax left) h = inr (inside, e, h)
 no_string text inside e faults.Memory h = tt

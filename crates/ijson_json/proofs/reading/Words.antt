@@ -1,4 +1,4 @@
--- The words `null`, `true` and `false`: reading one, and why there is none.
+-- Lemmas about reading the words `null`, `true` and `false`.
 use Rattle.std.proofs.Common.{◌≡◌, ℕ, ◌≤◌, Bool, true, false, List, ◌∷◌, ◌++◌, refl, ap, ◌∙◌, arith, inl, inr}
 use Rattle.std.specs.Prelude.{Result, MatchResult}
 use Rattle.std.specs.Borrow.{Bor}
@@ -18,19 +18,20 @@ use Rattle.ijson_json.proofs.scanning.Prefixes.{heads_apart}
 use Rattle.ijson_json.proofs.grammar.FirstBytes.{kind_at}
 use Rattle.ijson_json.proofs.reading.CacheContents.{adds_none}
 
--- the word that begins with this byte and spells this tree, which no other value begins like
+-- Holds if `word` spells the tree `t`, begins with the byte `b`, and is the only value that begins
+-- with `b`.
 pub record Word (b : ℕ) (word : List ℕ) (t : Tree) : Type 0 where
   pub spells : IsValue t word
   pub alone : (u : Tree) (more x : List ℕ) (f : Front (λ value. IsValue u value) (b ∷ more) x) → f.front ≡ word
   pub flat : rank t ≤ 1
   pub scalar : (text more : List ℕ) (fault : Fault) → text ≡ b ∷ more → WordFault text word fault → ScalarFault text fault
 
--- only `null` begins with an n
+-- `null` is the only value that begins with `n`.
 null_alone : (t : Tree) (more x : List ℕ) (f : Front (λ value. IsValue t value) (110 ∷ more) x) → f.front ≡ null_text
 null_alone null more x f = f.holds
 null_alone t more x f = absurd (let k : 0 ≡ rank t = kind_at t 110 more _ x refl f in omega (arith, k))
 
--- the word `null`
+-- The word `null` spells the tree `null`.
 pub null_word : Word 110 null_text null
 null_word = record {
   spells = refl;
@@ -39,12 +40,13 @@ null_word = record {
   scalar = λ text more fault e h. (110, more, e, inr (inl (refl, h)));
 }
 
--- the first byte of a Boolean
+-- The first byte of a Boolean: `t` or `f`.
 abbrev first_of : Bool → ℕ
 first_of true = 116
 first_of false = 102
 
--- only a Boolean begins with its first byte
+-- `true` is the only value that begins with `t`, and `false` is the only value that begins with
+-- `f`.
 boolean_alone : (a : Bool) (t : Tree) (more x : List ℕ) (f : Front (λ value. IsValue t value) (first_of a ∷ more) x)
     → f.front ≡ boolean_text a
 boolean_alone true (boolean true) more x f = f.holds
@@ -59,11 +61,11 @@ boolean_scalar : (a : Bool) (text more : List ℕ) (fault : Fault) → text ≡ 
 boolean_scalar true text more fault e h = (116, more, e, inr (inr (inl (refl, h))))
 boolean_scalar false text more fault e h = (102, more, e, inr (inr (inr (inl (refl, h)))))
 
--- the word `true` or `false`
+-- The words `true` and `false` spell the Booleans.
 pub boolean_word : (a : Bool) → Word (first_of a) (boolean_text a) (boolean a)
 boolean_word a = record { spells = refl; alone = boolean_alone a; flat = omega arith; scalar = boolean_scalar a }
 
--- a word is read as its tree, whatever follows it, and has no strings
+-- A word is read as its tree, whatever text follows.
 word_found : (t : Tree) → rank t ≤ 1 → (word rest : List ℕ) → IsValue t word → (opened : ℕ) → opened ≤ max_depth
     → ReadAs opened (word ++ rest) t rest
 word_found null flat word rest v opened within =
@@ -78,7 +80,8 @@ word_shares (boolean a) flat cache = tt
 word_shares t flat cache = absurd (omega arith)
 
 module _ {b : ℕ} {word : List ℕ} {t : Tree} (w : Word b word t) where
-  -- the result of reading a text that may begin with the word
+  -- Reading the word at the start of a text returns its tree, or a fault that is possible for the
+  -- text.
   pub word_reads : (answer : Result (WellFormed × Bor (List ℕ)) Fault) (value : WellFormed) (cache : Texts) (text : List ℕ) (first : ℕ)
       (more : List ℕ) → text ≡ first ∷ more → first ≡ b → value.tree ≡ t
       → MatchResult answer (λ x. (x.0 ≡ value) × (text ≡ word ++ x.1.now)) (λ fault. WordFault text word fault)

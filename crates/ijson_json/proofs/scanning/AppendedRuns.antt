@@ -1,4 +1,4 @@
--- A run appended in whole blocks, of which the last is truncated.
+-- Lemmas about appending a run in blocks of 16 bytes and truncating the last block.
 use Rattle.std.proofs.Common.{◌≡◌, ℕ, ◌+◌, ◌-◌, ◌≤◌, List, ◌++◌, length, length-append, take, drop, sym, ap, ◌∙◌, arith, append_assoc}
 use Rattle.std.proofs.Math.Seq.{take-add, take-append-add}
 use Rattle.std.proofs.lemmas.List.{length-take-le, take_at}
@@ -6,23 +6,25 @@ use Rattle.std.proofs.lemmas.Simd.{chunk-drop, length-chunk}
 use lib.Lanes.{chunk}
 
 module _ (old bytes : List ℕ) (at : ℕ) where
-  -- the first bytes and those appended after them are the first bytes of all
+  -- Appending `n` more bytes after the first `at` bytes appends the first `at + n` bytes.
   pub appended : (n : ℕ) → (old ++ take at bytes) ++ take n (drop at bytes) ≡ old ++ take (at + n) bytes
   appended n = append_assoc old (take at bytes) (take n (drop at bytes)) ∙ ap (λ l. old ++ l) (sym (take-add at n bytes))
 
   module _ (room : at + 16 ≤ length bytes) where
-    -- the lanes loaded at an index are the 16 bytes that begin there
+    -- The 16-byte chunk at `at` consists of the 16 bytes from `at` on.
     row_is : chunk at 16 bytes ≡ take 16 (drop at bytes)
     row_is = sym (ap (take 16) (chunk-drop at 16 bytes)
         ∙ take_at (chunk at 16 bytes) (drop (at + 16) bytes) 16 (length-chunk at 16 bytes room))
 
-    -- a block is appended unchanged
+    -- Appending the 16-byte chunk at `at` after the first `at` bytes appends the first `at + 16`
+    -- bytes.
     pub appended_row : (content longer : List ℕ) → content ≡ old ++ take at bytes → longer ≡ content ++ chunk at 16 bytes
         → longer ≡ old ++ take (at + 16) bytes
     appended_row content longer was is = is ∙ ap (λ l. l ++ chunk at 16 bytes) was ∙ ap (λ l. (old ++ take at bytes) ++ l) row_is
         ∙ appended 16
 
-    -- and truncated to its first bytes
+    -- If the last 16 bytes were appended as a block, truncating the block to `count` bytes leaves
+    -- the first `at + count` bytes.
     pub cut_row : (longer : List ℕ) (count end : ℕ) → count ≤ 16 → longer ≡ old ++ take (at + 16) bytes
         → end ≡ length longer - (16 - count) → take end longer ≡ old ++ take (at + count) bytes
     cut_row longer count end few is cut =

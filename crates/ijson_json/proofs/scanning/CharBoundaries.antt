@@ -1,18 +1,18 @@
--- The positions at which a text may be split.
+-- Lemmas about character boundaries: the indices at which a text can be split.
 use Rattle.std.proofs.Common.{◌≡◌, ℕ, zero, suc, ◌+◌, ◌<◌, ◌≤◌, List, ◌∷◌, ◌++◌, length, length-append, length-drop, get_or, drop, sym, ap}
 use Rattle.std.proofs.Common.{◌∙◌, arith, add-zero}
 use Rattle.std.specs.Str.{IsUtf8, IsCharBoundary}
 use Rattle.std.proofs.lemmas.List.{get_or-append-add, get_or-drop}
 use Rattle.std.proofs.lemmas.Str.{IsCharBoundary-after_ascii, IsCharBoundary-start}
 
--- after ASCII bytes
+-- If the first `n` bytes are ASCII, `n` is a character boundary.
 pub behind_ascii : (text : List ℕ) → IsUtf8 text → (n : ℕ) → n ≤ length text → ((k : ℕ) → k < n → get_or text k 0 < 128)
     → IsCharBoundary text n
 behind_ascii text u zero h p = IsCharBoundary-start text u
 behind_ascii text u (suc k) h p = let e : suc k ≡ k + 1 = omega arith in
     rw e (IsCharBoundary-after_ascii text k u (omega arith) (p k (omega arith)))
 
--- after a first byte that is ASCII
+-- If the first byte is ASCII, 1 is a character boundary.
 pub after_first : (text bytes : List ℕ) (b : ℕ) (more : List ℕ) → IsUtf8 text → bytes ≡ text → bytes ≡ b ∷ more → b < 128
     → IsCharBoundary text 1
 after_first text bytes b more u e f h =
@@ -21,7 +21,7 @@ after_first text bytes b more u e f h =
     let first : get_or text 0 0 ≡ b = ap (λ (l : List ℕ). get_or l 0 0) whole in
     IsCharBoundary-after_ascii text 0 u some (omega (arith, first, h))
 
--- after an ASCII byte that follows others
+-- The index after an ASCII byte is a character boundary.
 pub behind_byte : (text run after rest : List ℕ) (b start : ℕ) → IsUtf8 text → drop start text ≡ run ++ after → after ≡ b ∷ rest → b < 128
     → IsCharBoundary text (start + (length run + 1))
 behind_byte text run after rest b start u e f h =

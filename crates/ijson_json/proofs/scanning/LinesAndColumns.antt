@@ -1,4 +1,4 @@
--- The counts after one more byte.
+-- Lemmas about the line and character counts after one more byte.
 use Rattle.std.proofs.Common.{◌≡◌, ◌≢◌, ◌+◌, ◌++◌, ◌<◌, ◌≤◌, ℕ, suc, Bool, List, [], ◌∷◌, inr, true, false, cond}
 use Rattle.std.proofs.Common.{length, take, length-take, refl, sym, ap, ◌∙◌, arith, append_assoc}
 use Rattle.std.specs.Prelude.{nat_eq}
@@ -6,7 +6,7 @@ use Rattle.std.proofs.lemmas.Bool.Decides.{nat_tests}
 use Rattle.std.proofs.lemmas.List.{append-nil, length-append}
 use Rattle.ijson_json.specs.LineColumn.{begins, line_feeds, characters, Counts}
 
--- one more if a test passes
+-- Adding 1 if `b` is true adds the number `cond b 1 0`, which is at most 1.
 tally : (b : Bool) (n : ℕ) → (cond b (suc n) n ≡ cond b 1 0 + n) × (cond b 1 0 ≤ 1)
 tally true n = (omega arith, omega arith)
 tally false n = (omega arith, omega arith)
@@ -21,7 +21,7 @@ characters-append [] ys = omega arith
 characters-append (x ∷ xs) ys =
     omega (arith, tally (begins x) (characters (xs ++ ys)), tally (begins x) (characters xs), characters-append xs ys)
 
--- a line feed ends a line
+-- A line feed increases the line count by 1 and resets the character count to 0.
 pub line_feed_passed : (bytes : List ℕ) (lines more : ℕ) → Counts bytes lines more → Counts (bytes ++ 10 ∷ []) (lines + 1) 0
 line_feed_passed bytes lines more f = (
   bytes ++ 10 ∷ [],
@@ -33,7 +33,8 @@ line_feed_passed bytes lines more f = (
   refl,
 )
 
--- another byte continues the line, and begins a character or not
+-- A byte other than a line feed keeps the line count, and increases the character count if it
+-- begins a character.
 pub byte_passed : (bytes : List ℕ) (lines more b now : ℕ) → Counts bytes lines more → b ≢ 10 → now ≡ more + cond (begins b) 1 0
     → Counts (bytes ++ b ∷ []) lines now
 byte_passed bytes lines more b now f other counts =
@@ -47,7 +48,7 @@ byte_passed bytes lines more b now f other counts =
       omega (arith, f.6, characters-append f.1 (b ∷ []), tally (begins b) 0, counts),
     )
 
--- neither count exceeds the number of bytes
+-- The number of line feeds is at most the number of bytes.
 line_feeds-within : (bytes : List ℕ) → line_feeds bytes ≤ length bytes
 line_feeds-within [] = omega arith
 line_feeds-within (b ∷ bytes) = omega (arith, tally (nat_eq b 10) (line_feeds bytes), line_feeds-within bytes)
@@ -56,7 +57,7 @@ characters-within : (bytes : List ℕ) → characters bytes ≤ length bytes
 characters-within [] = omega arith
 characters-within (b ∷ bytes) = omega (arith, tally (begins b) (characters bytes), characters-within bytes)
 
--- a proper prefix has fewer lines and characters than the whole has bytes
+-- Both counts of a proper prefix are less than the length of the whole list.
 pub passed_within : (bytes : List ℕ) (at lines more : ℕ) → at < length bytes → Counts (take at bytes) lines more
     → (lines < length bytes) × (more < length bytes)
 passed_within bytes at lines more before f = (

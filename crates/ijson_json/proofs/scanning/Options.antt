@@ -1,7 +1,7 @@
--- Reasoning about an `Option` by cases.
+-- Lemmas about the two cases of an `Option`.
 use Rattle.std.specs.Prelude.{Option, Some, None, MatchOption}
 
--- an implication in each case is one for the option
+-- If `P` implies `P'` and `Q` implies `Q'`, `MatchOption o P Q` implies `MatchOption o P' Q'`.
 pub weaken : {A : Type 0} (o : Option A) (P P' : Type 0) (Q Q' : A → Type 0) → MatchOption o P Q → (P → P') → ((a : A) → Q a → Q' a)
     → MatchOption o P' Q'
 weaken None P P' Q Q' h f g = f h

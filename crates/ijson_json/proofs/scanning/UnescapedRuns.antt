@@ -1,4 +1,4 @@
--- Runs of bytes that need no escape in a string.
+-- Lemmas about runs of unescaped bytes in a string.
 use Rattle.std.proofs.Common.{◌≡◌, ℕ, ◌+◌, ◌-◌, inl, inr, ◌<◌, ◌≤◌, Bool, true, false, cond, List, [], ◌∷◌, length, take, drop, get_or, refl, sym, ap, arith}
 use Rattle.std.proofs.Common.{add-zero, ltb, ◌∙◌}
 use Rattle.std.specs.Prelude.{Option, IsTrue, not, unwrap_or, Some, None}
@@ -15,13 +15,13 @@ use Rattle.ijson_json.specs.Strings.{is_unescaped}
 use Rattle.ijson_json.specs.private.Reading.{Past}
 use Rattle.ijson_json.proofs.scanning.Prefixes.{Run}
 
--- each byte before the end of the longest run passes
+-- Each of the first `n` bytes passes, if the longest run has at least `n` bytes.
 pub run_before : (p : ℕ → Bool) (xs : List ℕ) (n : ℕ) → n ≤ prefix_len p xs → Run p (take n xs)
 run_before p xs n few = recursion_from_All (λ b. IsTrue (p b)) _ (λ k d h.
     let below : k < n = omega (arith, length-take-le n xs (omega (arith, few, prefix_len-le-length p xs)), h) in
     rw (get_or-take n xs k d below) (prefix_len_passes p xs k d (omega (arith, few))))
 
--- if all of the first n bytes pass, the longest run contains them
+-- If all of the first `n` bytes pass, the longest run has at least as many bytes.
 pub run_covers : (p : ℕ → Bool) (xs : List ℕ) (n : ℕ) → prefix_len p (take n xs) ≡ length (take n xs)
     → length (take n xs) ≤ prefix_len p xs
 run_covers p xs n all =
@@ -31,26 +31,26 @@ run_covers p xs n all =
     ∙ ap (λ b. cond b (length first + prefix_len p (drop n xs)) (prefix_len p first)) (eq-eqb _ _ all) in
     omega (arith, whole)
 
--- each byte of the longest run passes
+-- Each byte of the longest run passes.
 pub run_passes : (p : ℕ → Bool) (xs : List ℕ) → Run p (take (prefix_len p xs) xs)
 run_passes p xs = run_before p xs (prefix_len p xs) (omega arith)
 
--- a text whose first byte fails is past the test
+-- `Past p xs` holds if the byte at index 0 fails the test `p`, or if `xs` is empty.
 past_at_first : (p : ℕ → Bool) (xs : List ℕ) → (0 < length xs → p (get_or xs 0 0) ≡ false) → Past p xs
 past_at_first p [] h = tt
 past_at_first p (x ∷ xs) h = h (omega arith)
 
--- the byte after the longest run does not pass
+-- The byte after the longest run fails the test.
 pub run_stops : (p : ℕ → Bool) (xs : List ℕ) → Past p (drop (prefix_len p xs) xs)
 run_stops p xs = past_at_first p _ (λ more.
     let inside : prefix_len p xs < length xs = omega (arith, length-drop (prefix_len p xs) xs, more) in
     rw (get_or-drop (prefix_len p xs) xs 0 0, add-zero (prefix_len p xs)) (prefix_len_stops p xs 0 inside))
 
--- a byte that needs an escape is ASCII
+-- A byte that must be escaped is ASCII.
 pub special_ascii : (b : ℕ) → is_unescaped b ≡ false → b < 128
 special_ascii b h = grind (arith, nat_tests)
 
--- a text may be split after a run
+-- The end of the leading unescaped run is a character boundary.
 pub run_boundary : (text : List ℕ) → IsCharBoundary text (prefix_len is_unescaped text)
 run_boundary text = elim (cases_lt (prefix_len is_unescaped text) (length text)) [
   | inl h ↦ IsCharBoundary-before_ascii text _ h (special_ascii _ (prefix_len_stops is_unescaped text 0 h))
@@ -58,7 +58,7 @@ run_boundary text = elim (cases_lt (prefix_len is_unescaped text) (length text))
       rw all (IsCharBoundary-end text)
 ]
 
--- the first byte that does not fail the opposite test
+-- The index of the first byte that fails the test is the length of the longest run.
 pub run_twice : (p : ℕ → Bool) (xs : List ℕ) → position_or_len (λ b. not (p b)) xs ≡ prefix_len p xs
 run_twice p [] = refl
 run_twice p (x ∷ xs) = elim (p x) as (λ v. cond (not (not v)) (1 + position_or_len (λ b. not (p b)) xs) 0 ≡ cond v
@@ -67,16 +67,18 @@ run_twice p (x ∷ xs) = elim (p x) as (λ v. cond (not (not v)) (1 + position_o
       | false ↦ refl
     ]
 
--- a number below a bound, or the bound
+-- Replacing `first` by `None` if `first` is not below `all`, with the default `all`, keeps a number
+-- of at most `all`.
 first_or_all : (first : ℕ) {run all : ℕ} → first ≡ run → run ≤ all → unwrap_or (cond (ltb first all) (Some first) None) all ≡ run
 first_or_all first is within = grind (arith, nat_tests)
 
--- the first byte that fails ends the run, or the text does
+-- The index of the first byte that fails, or else the number of bytes, is the length of the longest
+-- run.
 pub run_end : (p : ℕ → Bool) (xs : List ℕ) {n : ℕ} {found : Option ℕ} → n ≡ unwrap_or found (length xs)
     → found ≡ position (λ b. not (p b)) xs → n ≡ prefix_len p xs
 run_end p xs {n} {found} is first = is ∙ ap (λ o. unwrap_or o (length xs)) first ∙ first_or_all _ (run_twice p xs) (prefix_len-le-length p xs)
 
--- the longest run from an index, and the text after it
+-- All bytes from `start` to the end of the run pass, and the byte after the run fails.
 pub run_from : (p : ℕ → Bool) (xs : List ℕ) (start end : ℕ) → end ≡ start + prefix_len p (drop start xs)
     → Run p (take (end - start) (drop start xs)) × Past p (drop end xs)
 run_from p xs start end e =

@@ -1,4 +1,4 @@
--- The states of a device over a stream are distinguished by its two parts.
+-- Encodes the state of a device as its reader or writer and the number of failed calls.
 use Rattle.std.specs.Prelude.{ℕ, refl}
 use Rattle.std.specs.Coded.{Coded, code_by, coded×, coded_ℕ}
 use Rattle.ijson_json.specs.StreamState.{StreamState}

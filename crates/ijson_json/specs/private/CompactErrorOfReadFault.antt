@@ -1,4 +1,4 @@
--- The error of `compact` for a fault of its reading.
+-- The error of `compact` for each fault of reading the source.
 use Rattle.ijson_json.specs.declared.device.transfer.ReadFault.{ReadFault}
 use Rattle.ijson_json.specs.declared.device.transfer.ReadFault.TheVariants as faults
 use Rattle.ijson_json.specs.declared.compacting.CompactError.{CompactError}

@@ -1,4 +1,4 @@
--- The bytes before a value, or before a member of an object, and how each text continues after them.
+-- The bytes before a value or a member of an object, and the JSON texts that continue these bytes.
 use Rattle.std.specs.Prelude.{◌≡◌, ℕ, ◌+◌, ◌≤◌, true, List, [], ◌∷◌, ◌++◌}
 use Rattle.ijson_value.specs.Tree.{Tree, depth}
 use Rattle.ijson_json.specs.Ranged.{is_ranged}
@@ -7,20 +7,23 @@ use Rattle.ijson_json.specs.Inside.{EachWithComma, Inside, IsMember, IsValuePlac
 use Rattle.ijson_json.specs.Limits.{max_depth}
 use Rattle.ijson_json.specs.private.Reading.{Front, Pair, Stops}
 
--- the second text begins with the same byte as the first, or both are empty
+-- Holds if both texts begin with the same byte, or if both are empty.
 abbrev pub StartsAs : List ℕ → List ℕ → Type 0
 StartsAs [] text = text ≡ []
 StartsAs (b ∷ rest) text = (more : List ℕ) × (text ≡ b ∷ more)
 
--- a JSON text, which is within each limit if the value inside `opened` containers is
+-- Holds if `text` is JSON. The text must be within a limit if `value`, inside `opened` containers,
+-- is within that limit.
 pub record Built (opened : ℕ) (value : Tree) (text : List ℕ) : Type 0 where
   pub tree : Tree
   pub spelled : Spaced (λ text. IsValue tree text) text
   pub deep : opened + depth value ≤ max_depth → depth tree ≤ max_depth
   pub ranged : is_ranged value ≡ true → is_ranged tree ≡ true
 
--- An element may begin after the bytes `before`, inside `opened` containers. In each JSON text that continues them with the first byte of
--- `text`, an element begins there. Any element and the closing brackets complete them.
+-- Holds if an element of the type `E` (a value or a member) may begin after `before`, inside
+-- `opened` containers. If a JSON text continues `before` with the first byte of `text`, an element
+-- follows `before` in that text (`only`). Any element and the brackets `closers` extend `before` to
+-- a JSON text (`builds`).
 pub record Context (E : Type 0) (Is : E → List ℕ → Type 0) (inner : E → Tree) (IsPlace : ℕ → List ℕ → Type 0)
     (opened : ℕ) (before text : List ℕ) : Type 0 where
   pub within : opened ≤ max_depth
@@ -34,13 +37,13 @@ pub record Context (E : Type 0) (Is : E → List ℕ → Type 0) (inner : E → 
 abbrev pub ValueContext : ℕ → List ℕ → List ℕ → Type 0
 ValueContext opened before text = Context Tree (λ t value. IsValue t value) (λ t. t) IsValuePlace opened before text
 
--- the beginning of an object, after which a member may follow
+-- Holds if `text` is the beginning of an object that ends where a member may begin.
 abbrev pub IsOpenObject : List ℕ → Type 0
 IsOpenObject text =
     (gap members space : List ℕ) × IsSpace gap × EachWithComma IsMember members × IsSpace space
     × (text ≡ gap ++ 123 ∷ (members ++ space))
 
--- a member may begin after these bytes
+-- Holds if a member may begin after `before`, with `opened` containers open.
 abbrev pub IsMemberPlace : ℕ → List ℕ → Type 0
 IsMemberPlace opened before = (outer : ℕ) × (opened ≡ outer + 1) × Inside IsOpenObject outer before
 

@@ -1,4 +1,4 @@
--- The meaning of the faults of the reader's private functions for the text.
+-- The faults with which the reader's private functions may fail.
 use Rattle.std.specs.Prelude.{◌≡◌, ◌≢◌, ◌==◌, ◌⊎◌, ℕ, ◌-◌, true, false, List, ◌∷◌, ◌++◌, ⊤, length, take, drop, Result, Ok, Err}
 use Rattle.ijson_number.specs.Decimal.{Decimal}
 use Rattle.ijson_number.specs.Num.{is_in_range}
@@ -16,30 +16,34 @@ use Rattle.ijson_json.specs.declared.fault.Fault.TheVariants as faults
 use Rattle.ijson_json.specs.declared.fault.JsonError.{JsonError}
 use Rattle.ijson_json.specs.declared.fault.JsonError.TheVariants as errors
 
--- the error for a fault in a text of `length` bytes, of which `left` remained
+-- The error for `fault` in a text of `length` bytes. A fault contains the number of bytes left, and
+-- an error contains the offset.
 abbrev pub error_of : ℕ → Fault → JsonError
 error_of length (faults.Syntax left) = errors.Syntax (length - left)
 error_of length (faults.TooDeep left) = errors.TooDeep (length - left)
 error_of length (faults.NumberRange left) = errors.NumberRange (length - left)
 error_of length faults.Memory = errors.Memory
 
--- an error that a text is rejected with, other than a lack of memory, is the error of the text
+-- Holds if the error is `Memory`, or if it is the error of `text`.
 abbrev pub Rejects : List ℕ → JsonError → Type 0
 Rejects text error = error ≢ errors.Memory → IsErrorOf text error
 
--- a fault of a whole text
+-- Holds if `Rejects` holds for the error that `fault` becomes in `text`.
 abbrev pub RejectsBy : List ℕ → Fault → Type 0
 RejectsBy text fault = Rejects text (error_of (length text) fault)
 
--- why no value was read here: in each text in which it is inside `opened` containers, the fault is the error of that text
+-- Holds if reading a value at the start of `text`, inside `opened` containers, may fail with
+-- `fault`. If a value may begin after `before`, then `fault` becomes the error of `before ++ text`.
 abbrev pub Explains : ℕ → List ℕ → Fault → Type 0
 Explains opened text fault = (before : List ℕ) → ValueContext opened before text → RejectsBy (before ++ text) fault
 
--- why no member was read here
+-- Holds if reading a member at the start of `text`, inside `opened` containers, may fail with
+-- `fault`. If a member may begin after `before`, then `fault` becomes the error of
+-- `before ++ text`.
 abbrev pub ExplainsMember : ℕ → List ℕ → Fault → Type 0
 ExplainsMember opened text fault = (before : List ℕ) → MemberContext opened before text → RejectsBy (before ++ text) fault
 
--- the first `count` bytes of the text and the word are the same, and the next are not, if both have one
+-- Holds if the longest common prefix of `text` and `word` has `count` bytes.
 pub record CommonFront (text word : List ℕ) (count : ℕ) : Type 0 where
   pub front : List ℕ
   pub rest : List ℕ
@@ -49,7 +53,8 @@ pub record CommonFront (text word : List ℕ) (count : ℕ) : Type 0 where
   pub count_is : count ≡ length front
   pub differ : (b : ℕ) (x y : List ℕ) → rest ≡ b ∷ x → more ≡ b ∷ y → ⊥
 
--- where the text is not the word
+-- Holds if `text` does not begin with `word`, and the fault is a syntax error at the first byte
+-- that differs.
 abbrev pub WordFault : List ℕ → List ℕ → Fault → Type 0
 WordFault text word (faults.Syntax left) =
     (count : ℕ) × CommonFront text word count × (left ≡ length text - count) × ((rest : List ℕ) → text ≢ word ++ rest)
@@ -57,19 +62,22 @@ WordFault text word (faults.TooDeep left) = ⊥
 WordFault text word (faults.NumberRange left) = ⊥
 WordFault text word faults.Memory = ⊥
 
--- no quote, or where the content after it stops
+-- Holds if `text` does not begin with a string, and reading stops with `left` bytes left. The first
+-- byte is not a quote, or the content after the quote stops.
 abbrev pub StringStops : List ℕ → ℕ → Type 0
 StringStops text left =
     ((left ≡ length text) × Past (λ b. b == 34) text) ⊎ ((inside : List ℕ) × (text ≡ 34 ∷ inside) × ContentStops inside left)
 
--- where there is no string
+-- Holds if reading a string at the start of `text` may fail with the fault.
 abbrev pub StringFault : List ℕ → Fault → Type 0
 StringFault text (faults.Syntax left) = StringStops text left
 StringFault text (faults.TooDeep left) = ⊥
 StringFault text (faults.NumberRange left) = ⊥
 StringFault text faults.Memory = ⊤
 
--- the bytes with which some number begins are no number, or one within the limit that a byte of a number follows
+-- Holds if a syntax error occurs with `left` bytes left, while reading a number at the start of
+-- `text`. The longest prefix that begins a number is not a number, or it is a number within the
+-- limit and a byte of a number follows.
 pub record NumberStops (text : List ℕ) (left : ℕ) : Type 0 where
   pub count : ℕ
   pub front : IsNumberFront text count
@@ -77,18 +85,18 @@ pub record NumberStops (text : List ℕ) (left : ℕ) : Type 0 where
   pub stops : ((n : Decimal) → Spells (take count text) n → ⊥)
       ⊎ ((n : Decimal) × Spells (take count text) n × (is_in_range n ≡ true) × (Stops (drop count text) → ⊥))
 
--- where there is no number, or one beyond the limit
+-- Holds if reading a number at the start of `text` may fail with the fault.
 abbrev pub NumberFault : List ℕ → Fault → Type 0
 NumberFault text (faults.Syntax left) = NumberStops text left
 NumberFault text (faults.TooDeep left) = ⊥
 NumberFault text (faults.NumberRange left) = (left ≡ length text) × IsUnread text OutOfRange
 NumberFault text faults.Memory = ⊤
 
--- a byte with which no value but a number begins
+-- Holds if only a number can begin with the byte `first`.
 abbrev pub IsApart : ℕ → Type 0
 IsApart first = (first ≢ 110) × (first ≢ 116) × (first ≢ 102) × (first ≢ 91) × (first ≢ 123) × (first ≢ 34)
 
--- where there is no value but a container, by its first byte
+-- Holds if reading a value that is not a container at the start of `text` may fail with `fault`.
 abbrev pub ScalarFault : List ℕ → Fault → Type 0
 ScalarFault text fault =
     (first : ℕ) × (more : List ℕ) × (text ≡ first ∷ more)
@@ -96,7 +104,8 @@ ScalarFault text fault =
     ⊎ ((first ≡ 116 × WordFault text (boolean_text true) fault)
     ⊎ ((first ≡ 102 × WordFault text (boolean_text false) fault) ⊎ (IsApart first × NumberFault text fault)))))
 
--- no `:` behind the key and its white space
+-- Holds if `text` begins with a key, but `:` does not follow the key and its white space. Reading
+-- stops there, with `left` bytes left.
 pub record ColonStops (text : List ℕ) (left : ℕ) : Type 0 where
   pub key : List ℕ
   pub after : List ℕ
@@ -106,14 +115,15 @@ pub record ColonStops (text : List ℕ) (left : ℕ) : Type 0 where
   pub no_colon : Past (λ b. b == 58) rest
   pub left_is : left ≡ length rest
 
--- where there is no key with its `:`
+-- Holds if reading a key and its `:` at the start of `text` may fail with the fault.
 abbrev pub KeyFault : List ℕ → Fault → Type 0
 KeyFault text (faults.Syntax left) = StringStops text left ⊎ ColonStops text left
 KeyFault text (faults.TooDeep left) = ⊥
 KeyFault text (faults.NumberRange left) = ⊥
 KeyFault text faults.Memory = ⊤
 
--- the result of reading a whole text
+-- Holds for `Ok value` if `text` is accepted as the tree of `value`. Holds for `Err error` if
+-- `Rejects text error` does.
 abbrev pub Answers : List ℕ → Result WellFormed JsonError → Type 0
 Answers text (Ok value) = Accepted text value.tree
 Answers text (Err error) = Rejects text error

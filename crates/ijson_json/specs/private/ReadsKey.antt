@@ -1,4 +1,4 @@
--- The effect of reading an object's key.
+-- The result of reading a key of an object.
 use Rattle.std.specs.Prelude.{ℕ, List, Result, MatchResult}
 use Rattle.std.specs.Borrow.{Bor}
 use Rattle.ijson_string.specs.Cache.{Texts}
@@ -8,12 +8,14 @@ use Rattle.ijson_json.specs.private.Explains.{KeyFault}
 use Rattle.ijson_json.specs.private.Reading.{KeyRead}
 use Rattle.ijson_json.specs.declared.fault.Fault.{Fault}
 
--- the leading key was read, its value begins at cur, and the cache contains the key
+-- Holds if `key` was read at the start of `text`, its value begins at `cur`, and `cache` contains
+-- `key` if it is long.
 pub record HasRead (text : List ℕ) (cache : Texts) (key cur : List ℕ) : Type 0 where
   pub read : KeyRead key text cur
   pub shared : IsShared cache key
 
--- the key and the start of its value, or why there is none, and the strings in the cache
+-- Holds if `result` is the leading key and the text of its value, or a fault that is possible for
+-- `text`. The cache gains only strings of `text`.
 pub record ReadsKey (text : List ℕ) (result : Result (List ℕ × Bor (List ℕ)) Fault)
     (old new : Texts) : Type 0 where
   pub cache : AddsOnlyRead text old new

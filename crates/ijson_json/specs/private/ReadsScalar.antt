@@ -1,4 +1,4 @@
--- The effect of reading a value that is not a container.
+-- The result of reading a value that is not a container.
 use Rattle.std.specs.Prelude.{ℕ, ◌≤◌, List, Result, MatchResult}
 use Rattle.std.specs.Borrow.{Bor}
 use Rattle.ijson_string.specs.Cache.{Texts}
@@ -10,12 +10,14 @@ use Rattle.ijson_json.specs.private.Explains.{ScalarFault}
 use Rattle.ijson_json.specs.private.Reading.{ReadAs}
 use Rattle.ijson_json.specs.declared.fault.Fault.{Fault}
 
--- the leading value was read, inside any number of open containers, and the cache contains its string
+-- Holds if the leading value was read, inside any number of open containers, and the cache contains
+-- its string.
 pub record ScalarRead (text : List ℕ) (cache : Texts) (value : WellFormed) (rest : List ℕ) : Type 0 where
   pub read : (opened : ℕ) → opened ≤ max_depth → ReadAs opened text value.tree rest
   pub shared : AreShared cache value.tree
 
--- `result` is the leading scalar and the rest of the text, or the fault; the cache gains only strings of the text
+-- Holds if `result` is the leading value and the rest of `text`, or a fault that is possible for
+-- `text`. The cache gains only strings of `text`.
 pub record ReadsScalar (text : List ℕ) (result : Result (WellFormed × Bor (List ℕ)) Fault)
     (old new : Texts) : Type 0 where
   pub cache : AddsOnlyRead text old new

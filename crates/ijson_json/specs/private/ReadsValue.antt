@@ -1,4 +1,4 @@
--- The effect of reading one value.
+-- The result of reading a value.
 use Rattle.std.specs.Prelude.{◌≡◌, ℕ, List, Result, MatchResult}
 use Rattle.std.specs.Borrow.{Bor}
 use Rattle.ijson_string.specs.Cache.{Texts}
@@ -10,7 +10,8 @@ use Rattle.ijson_json.specs.private.Reading.{ReadAs}
 use Rattle.ijson_json.specs.declared.fault.Fault.{Fault}
 use Rattle.ijson_json.specs.declared.read.scratch.Scratch.{Scratch}
 
--- the leading value was read, inside `opened` containers, the cache contains its strings, and the scratch stacks are unchanged
+-- Holds if the leading value was read inside `opened` containers, the cache contains its strings,
+-- and the stacks in the scratch are unchanged.
 pub record ValueRead (opened : ℕ) (text : List ℕ) (cache : Texts) (old new : Scratch)
     (value : WellFormed) (rest : List ℕ) : Type 0 where
   pub read : ReadAs opened text value.tree rest
@@ -18,7 +19,8 @@ pub record ValueRead (opened : ℕ) (text : List ℕ) (cache : Texts) (old new :
   pub values : new.values.items ≡ old.values.items
   pub members : new.members.items ≡ old.members.items
 
--- `result` is the leading value and the rest of the text, or the fault; the cache gains only strings of the text
+-- Holds if `result` is the leading value and the rest of `text`, or a fault that is possible for
+-- `text`. The cache gains only strings of `text`.
 pub record ReadsValue (opened : ℕ) (text : List ℕ) (result : Result (WellFormed × Bor (List ℕ)) Fault)
     (old new : Texts) (before after : Scratch) : Type 0 where
   pub cache : AddsOnlyRead text old new

@@ -6,9 +6,9 @@ use crate::device::{DeviceFault, Sink};
 use std::alloc::{AllocError, Global};
 use std::marker::Model;
 
-/// A sink that stores up to `fail_at` bytes, at most `piece` in a call, and then fails.
+/// A sink that stores up to `fail_at` bytes, at most `piece` per call, and then fails.
 ///
-/// It allocates `fail_at` bytes, however many it receives.
+/// Creating the sink allocates all `fail_at` bytes.
 #[derive(Drop)]
 pub struct MemorySink {
     room: Vec<u8>,
@@ -36,8 +36,9 @@ impl Model for MemorySink {
 impl MemorySink {
     /// Creates a sink that stores up to `fail_at` bytes, at most `piece` per call.
     ///
-    /// `piece` must be at least 1. Once `fail_at` bytes are stored, each write of a non-empty slice fails. The capacity for all of them is
-    /// allocated here, so that `write` does not allocate.
+    /// `piece` must be at least 1. After `fail_at` bytes are stored, each write of a non-empty
+    /// slice fails. The capacity for all `fail_at` bytes is allocated here, so that `write` does
+    /// not allocate.
     ///
     /// # Errors
     ///
@@ -68,7 +69,7 @@ impl MemorySink {
     }
 }
 
-/// No call allocates.
+/// `write` and `failures` do not allocate.
 impl Sink for MemorySink {
     ghost failed = { λ s. s.failed };
 
@@ -86,7 +87,8 @@ impl Sink for MemorySink {
         ensures fault { OnErr result (self.new.failed ≡ self.old.failed + 1) }
         ensures bytes { WriteAppends (Some self.old.got) (Some self.new.got) result from.now }
 
-        // When a call fails, how many bytes it moves, and the state after it.
+        // The remaining clauses determine when a call fails, how many bytes it moves and the new
+        // state.
         ensures fails { IsErr result ↔ ((self.old.until_fault ≡ 0) × (0 < length from.now)) }
         ensures moved { IfOk result (λ n.
             n ≡ min self.old.piece (min self.old.until_fault (length from.now))) }

@@ -5,7 +5,8 @@ ghost use Rattle.std.specs.Io.KnownBytes.{ReadConsumes};
 use crate::device::{DeviceFault, Source};
 use std::marker::Model;
 
-/// A source of the bytes of a slice, at most `piece` in a call, that fails after `fail_at` bytes.
+/// A source that returns the bytes of a slice, at most `piece` per call, and fails after `fail_at`
+/// bytes.
 ///
 /// Does not allocate.
 #[derive(Drop)]
@@ -35,8 +36,8 @@ impl<'a> Model for MemorySource<'a> {
 impl<'a> MemorySource<'a> {
     /// Creates a source of `bytes` that returns at most `piece` bytes per call.
     ///
-    /// `piece` must be at least 1. Once `fail_at` bytes are returned, each call fails, even at the end of `bytes`. If `fail_at` is
-    /// `usize::MAX`, no call fails.
+    /// `piece` must be at least 1. After `fail_at` bytes are returned, each call fails, even at the
+    /// end of `bytes`. If `fail_at` is `usize::MAX`, no call fails.
     pub fn new(bytes: &'a [u8], piece: usize, fail_at: usize) -> MemorySource<'a>
         requires { 0 < piece }
         ensures { result ≡ record {
@@ -55,7 +56,7 @@ impl<'a> MemorySource<'a> {
     }
 }
 
-/// No call allocates.
+/// `read` and `failures` do not allocate.
 impl Source for MemorySource<'_> {
     ghost failed = { λ s. s.failed };
 
@@ -72,7 +73,8 @@ impl Source for MemorySource<'_> {
         ensures fault { OnErr result (self.new.failed ≡ self.old.failed + 1) }
         ensures bytes { ReadConsumes (Some self.old.left) (Some self.new.left) result into.new }
 
-        // When a call fails, how many bytes it moves, and the state after it.
+        // The remaining clauses determine when a call fails, how many bytes it moves and the new
+        // state.
         ensures fails { IsErr result ↔ (self.old.until_fault ≡ 0) }
         ensures moved { IfOk result (λ n. n ≡ min (min self.old.piece self.old.until_fault)
             (min (length into.old) (length self.old.left))) }

@@ -1,4 +1,5 @@
-//! A sink that writes to a `std::io::Write`. In contracts, the bytes received are the contents of the writer, if known.
+//! A sink that writes to a `std::io::Write`. In contracts, the bytes received are the contents of
+//! the writer, if known.
 ghost use Rattle.std.specs.Prelude.{◌≡◌, ◌+◌, ◌^◌, ◌<◌, OnOk, OnErr};
 ghost use Rattle.std.specs.Io.KnownBytes.{Keeps};
 
@@ -8,8 +9,8 @@ use std::marker::Model;
 
 /// A sink that writes to a writer.
 ///
-/// Any error is a fault, and so is a write of a non-empty slice that accepts no byte. Does not allocate. Each call is one write of the
-/// writer; only `flush` flushes the writer.
+/// A write fails if the writer returns an error, or accepts no byte of a non-empty slice. Each
+/// `write` is one write of the writer, and only `flush` flushes the writer. Does not allocate.
 #[derive(Drop)]
 pub struct StreamSink<W> {
     inner: W,
@@ -28,20 +29,20 @@ impl<W> Model for StreamSink<W> {
 }
 
 impl<W: Write> StreamSink<W> {
-    /// Creates a sink that writes to `inner`, without failures so far.
+    /// Creates a sink that writes to `inner`, with 0 failures.
     pub fn new(inner: W) -> StreamSink<W>
         ensures { result ≡ record { inner = inner; failed = 0 } }
     {
         StreamSink { inner, failures: 0 }
     }
 
-    /// Flushes the writer, once.
+    /// Flushes the writer once.
     ///
     /// `failures` must be below 2^64 - 1.
     ///
     /// # Errors
     ///
-    /// On a fault, `failures` increases by one.
+    /// If flushing fails, `failures` increases by 1.
     pub fn flush(&mut self) -> Result<(), DeviceFault>
         requires { self.old.failed + 1 < 2 ^ 64 }
         ensures count { OnOk result (self.new.failed ≡ self.old.failed) }

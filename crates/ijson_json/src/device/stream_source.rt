@@ -1,4 +1,5 @@
-//! A source that reads from a `std::io::Read`. In contracts, its remaining bytes are those of the reader, if known.
+//! A source that reads from a `std::io::Read`. In contracts, the remaining bytes are the remaining
+//! bytes of the reader, if known.
 ghost use Rattle.std.specs.Prelude.{◌≡◌};
 
 use crate::device::{DeviceFault, Source};
@@ -7,7 +8,8 @@ use std::marker::Model;
 
 /// A source that reads from a reader.
 ///
-/// Any error is a fault. Does not allocate: each call is one read of the reader.
+/// A read fails if the reader returns an error. Each `read` is one read of the reader. Does not
+/// allocate.
 #[derive(Drop)]
 pub struct StreamSource<R> {
     inner: R,
@@ -26,14 +28,14 @@ impl<R> Model for StreamSource<R> {
 }
 
 impl<R: Read> StreamSource<R> {
-    /// Creates a source that reads from `inner`, without failures so far.
+    /// Creates a source that reads from `inner`, with 0 failures.
     pub fn new(inner: R) -> StreamSource<R>
         ensures { result ≡ record { inner = inner; failed = 0 } }
     {
         StreamSource { inner, failures: 0 }
     }
 
-    /// Returns the reader. The bytes read so far are consumed, and no others.
+    /// Returns the reader. Only the bytes that the source returned are consumed.
     pub fn into_inner(self) -> R
         ensures { result ≡ self.inner }
     {

@@ -1,4 +1,4 @@
-//! Reading a source to its end, and writing a whole text.
+//! Reads a source to its end, and writes a whole text to a sink.
 ghost use Rattle.std.specs.Prelude.{◌≡◌, ◌+◌, ◌^◌, ◌<◌, ◌≤◌, take, drop, IfOk, OnOk, OnErr, Err};
 ghost use Rattle.std.specs.Io.KnownBytes.{Appends, Consumes, IsAtEnd};
 ghost use Rattle.std.specs.Vec.{vec_len};
@@ -8,7 +8,7 @@ ghost use Rattle.ijson_json.specs.declared.device.transfer.ReadFault.TheVariants
 use crate::device::{DeviceFault, Sink, Source};
 use std::alloc::{AllocError, Global};
 
-/// The number of bytes by which the buffer grows.
+/// The number of bytes by which a full buffer is extended.
 const PIECE: usize = 65_536;
 
 /// Why a source was not read to its end.
@@ -34,7 +34,7 @@ impl From<AllocError> for ReadFault {
     }
 }
 
-/// Reads the rest of `input` into the buffer that it returns.
+/// Reads the rest of `input`, and returns its bytes.
 #[tactic(auto, using(crate::proofs::devices::TransferredBytes::consumes_piece))]
 pub(crate) fn read_all<R: Source>(alloc: Global, input: &mut R) -> Result<Vec<u8>, ReadFault>
     requires { R.failed input.old + 1 < 2 ^ 64 }
@@ -54,11 +54,13 @@ pub(crate) fn read_all<R: Source>(alloc: Global, input: &mut R) -> Result<Vec<u8
         }
         filled += count;
     }
-    // Each iteration adds a byte, and no list has that many.
+    // Each iteration adds at least one byte, and a list has fewer than `u64::MAX` bytes.
     unreachable!()
 }
 
-/// Reads a piece after the first `filled` bytes, growing a full buffer, and returns its length.
+/// Reads the next bytes into `bytes` from index `filled` on, and returns their number.
+///
+/// If `filled` is the length of `bytes`, extends `bytes` first.
 fn read_piece<R: Source>(
     input: &mut R,
     bytes: &mut Vec<u8>,
@@ -82,9 +84,9 @@ fn read_piece<R: Source>(
     Ok(count)
 }
 
-/// Extends the list by a piece of zeros.
+/// Appends `PIECE` zeros to the list.
 ///
-/// Full memory doubles, and memory after the piece stays untouched.
+/// If the capacity is full, it doubles. Memory after the zeros is not written.
 fn make_room(bytes: &mut Vec<u8>) -> Result<(), AllocError>
     ensures kept { take (vec_len bytes.old) bytes.new.items ≡ bytes.old.items }
     ensures longer { OnOk result (vec_len bytes.old < vec_len bytes.new) }
@@ -95,7 +97,7 @@ fn make_room(bytes: &mut Vec<u8>) -> Result<(), AllocError>
     bytes.resize(len, 0)
 }
 
-/// Writes all of `text`.
+/// Writes all of `text` to `output`.
 pub(crate) fn write_all<W: Sink>(output: &mut W, text: &[u8]) -> Result<(), DeviceFault>
     requires { W.failed output.old + 1 < 2 ^ 64 }
     ensures count { OnOk result (W.failed output.new ≡ W.failed output.old) }

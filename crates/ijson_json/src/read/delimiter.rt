@@ -10,13 +10,16 @@ use crate::scan::space::skip_space;
 /// The delimiter after an element or a member.
 #[derive(Clone, Copy)]
 pub(crate) enum Delimiter<'a> {
-    /// A comma, and the text at which the next one begins.
+    /// A comma, and the text from the next element or member on.
     Comma(&'a str),
-    /// The bracket that closes the container, and the text after it.
+    /// The bracket that closes the container, and the text after the bracket.
     End(&'a str),
 }
 
-/// Reads the delimiter after an element or member of a container that `closing` closes.
+/// Reads the delimiter after an element or member, in a container that the bracket `closing`
+/// closes.
+///
+/// Skips the white space before the delimiter.
 #[tactic(auto, using(crate::proofs::scanning::Prefixes::closes))]
 #[inline(always)]
 pub(crate) fn read_delimiter(text: &str, closing: u8) -> Result<Delimiter<'_>, Fault>

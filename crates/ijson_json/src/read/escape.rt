@@ -1,4 +1,4 @@
-//! The escapes of a string.
+//! The escapes in a string.
 
 ghost use Rattle.std.specs.Prelude.{◌≡◌, ◌∷◌, ◌<◌, ◌≤◌, IsTrue, IfSome, MatchOption};
 ghost use Rattle.std.specs.Char.{encode_utf8};
@@ -7,30 +7,31 @@ ghost use Rattle.ijson_json.specs.private.StringReading.{hex_code, HexAt, NoHex,
 
 use crate::scan::prefix::{split_ascii, strip_byte};
 
-/// Returns `true` if the code is the first of a surrogate pair.
+/// Returns `true` if `unit` is a high surrogate, the first code of a pair.
 fn is_high_surrogate(unit: u32) -> bool
     ensures { result ≡ is_high_surrogate unit }
 {
     (0xd800..0xdc00).contains(&unit)
 }
 
-/// Returns `true` if the code is the second of a surrogate pair.
+/// Returns `true` if `unit` is a low surrogate, the second code of a pair.
 fn is_low_surrogate(unit: u32) -> bool
     ensures { result ≡ is_low_surrogate unit }
 {
     (0xdc00..0xe000).contains(&unit)
 }
 
-/// The byte that a backslash and each letter denote, or `.` if none.
+/// The byte that each letter denotes after a backslash, or `.` if the escape is invalid.
 ///
-/// A table costs the same for each letter, while the branch predictor rarely predicts a jump on it.
+/// A table lookup costs the same for each letter, while the branch predictor rarely predicts a jump
+/// on the letter.
 static MEANINGS: [u8; 128] = *b"\
     ................................\
     ..\"............/................\
     ............................\\...\
     ..\x08...\x0c.......\n...\r.\t...........";
 
-/// Returns the byte that a backslash and this letter denote, if any.
+/// Returns the byte that `letter` denotes after a backslash, or `None` if the escape is invalid.
 fn short_meaning(letter: u8) -> Option<u8>
     requires { letter < 128 }
     ensures value { result ≡ short_escape letter }
@@ -40,7 +41,9 @@ fn short_meaning(letter: u8) -> Option<u8>
     if meaning == b'.' { None } else { Some(meaning) }
 }
 
-/// The value of a byte that is not a hexadecimal digit. It exceeds any four digits.
+/// The value in `DIGITS` of a byte that is not a hexadecimal digit.
+///
+/// The value exceeds every number of four hexadecimal digits.
 const NO_DIGIT: u32 = 0x10000;
 
 /// The value of each byte as a hexadecimal digit, or `NO_DIGIT`.
@@ -74,7 +77,7 @@ static DIGITS: [u32; 256] = [
     NO_DIGIT, NO_DIGIT, NO_DIGIT, NO_DIGIT, NO_DIGIT, NO_DIGIT, NO_DIGIT,
 ];
 
-/// Returns the value of a hexadecimal digit, or `NO_DIGIT` for another byte.
+/// Returns the value of a hexadecimal digit, or `NO_DIGIT` for any other byte.
 #[inline(always)]
 fn hex_value(byte: u8) -> u32
     ensures value { result ≡ hex_code (hex_digit byte) }
@@ -83,7 +86,7 @@ fn hex_value(byte: u8) -> u32
     DIGITS[byte as usize]
 }
 
-/// Returns the value of four leading hexadecimal digits, and the text after them.
+/// Returns the value of four leading hexadecimal digits, and the text after the digits.
 #[inline(always)]
 fn take_unit(text: &str) -> Option<(u32, &str)>
     ensures found { MatchOption result (NoHex text.now) (λ x. HexAt text.now x.0 x.1.now) }
@@ -101,7 +104,8 @@ fn take_unit(text: &str) -> Option<(u32, &str)>
     Some((unit, &text[4..]))
 }
 
-/// Reads an escaped low surrogate; returns its character with `high`, and the text after it.
+/// Reads the escape of a low surrogate, and returns its character with `high` and the text after
+/// it.
 fn take_low(high: u32, text: &str) -> Option<(char, &str)>
     requires { IsTrue (is_high_surrogate high) }
     ensures { MatchOption result (NoLow text.now)
@@ -116,7 +120,7 @@ fn take_low(high: u32, text: &str) -> Option<(char, &str)>
     Some((character, rest))
 }
 
-/// Returns the character whose code or surrogate pair follows `\u`, and the text after it.
+/// Reads the code or surrogate pair after `\u`, and returns its character and the text after it.
 fn take_unicode(text: &str) -> Option<(char, &str)>
     ensures { MatchOption result (NoCharacter (92 ∷ 117 ∷ text.now))
         (λ x. CharacterAt (92 ∷ 117 ∷ text.now) (encode_utf8 x.0) x.1.now) }
@@ -129,7 +133,9 @@ fn take_unicode(text: &str) -> Option<(char, &str)>
     Some((character, rest))
 }
 
-/// Returns the character of the leading escape, and the text after it.
+/// Reads the leading escape, and returns its character and the text after the escape.
+///
+/// Returns `None` if `text` does not begin with a valid escape.
 pub(crate) fn take_escape(text: &str) -> Option<(char, &str)>
     ensures { MatchOption result (NoEscape text.now)
         (λ x. CharacterAt text.now (encode_utf8 x.0) x.1.now) }

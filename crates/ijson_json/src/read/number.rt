@@ -1,4 +1,4 @@
-//! Reading a number.
+//! Reading of numbers.
 
 ghost use Rattle.std.specs.Prelude.{◌≡◌, ◌↔◌, IsTrue, MatchResult};
 ghost use Rattle.ijson_number.specs.NumberBytes.{is_number_byte};
@@ -21,15 +21,17 @@ fn in_number(byte: u8) -> bool
         || byte == b'e'
 }
 
-/// Returns `true` if the text begins with no byte of a number.
+/// Returns `true` if `text` does not begin with a byte of a number.
 fn stops(text: &str) -> bool
     ensures { IsTrue result ↔ Stops text.now }
 {
-    // most numbers are followed by a comma
+    // Most numbers are followed by a comma, so the comma is tested first.
     text.is_empty() || text.as_bytes()[0] == b',' || !in_number(text.as_bytes()[0])
 }
 
-/// Reads the leading number. If the number is out of range, the error is at its first byte, whatever follows.
+/// Reads the leading number, and returns the number and the text after it.
+///
+/// If the number is out of range, the fault is at its first byte, whatever follows.
 #[inline(always)]
 pub(crate) fn read_number(alloc: Global, text: &str) -> Result<(INumber, &str), Fault>
     ensures { MatchResult result

@@ -1,4 +1,4 @@
-//! Reading a value that is not a container.
+//! Reading of values that are not containers.
 
 ghost use Rattle.std.specs.Prelude.{◌≡◌, ◌≢◌, ◌∷◌, ◌++◌, ℕ, List, MatchResult};
 ghost use Rattle.ijson_json.specs.private.Explains.{WordFault};
@@ -13,7 +13,7 @@ use ijson_value::value::IValue;
 use std::alloc::Global;
 use std::hash::BuildHasher;
 
-/// Reads `word`, and returns `value` for it.
+/// Reads `word` at the start of `text`, and returns `value` and the text after the word.
 #[inline(always)]
 fn read_word<'a>(text: &'a str, word: &str, value: IValue) -> Result<(IValue, &'a str), Fault>
     ensures { MatchResult result
@@ -29,9 +29,9 @@ fn read_word<'a>(text: &'a str, word: &str, value: IValue) -> Result<(IValue, &'
     }
 }
 
-/// Reads the leading value, which begins with `first` and is not a container.
+/// Reads the leading value, which is not a container and begins with the byte `first`.
 ///
-/// The content of a string with an escape is built in `content`.
+/// `content` is a buffer for the content of a string with an escape.
 #[inline(always)]
 pub(crate) fn read_scalar<'a, S: BuildHasher>(
     alloc: Global,

@@ -1,4 +1,4 @@
-//! Elements and members read, but not in an array or object yet.
+//! Elements and members that were read, but whose array or object has not ended.
 
 ghost use Rattle.std.specs.Prelude.{◌≡◌, [], ◌∷◌, ◌++◌, ◌⊎◌, ◌<◌, ◌≤◌, length, take, drop, vec_capacity, IfOk, IfErr, OnOk};
 ghost use Rattle.ijson_table.specs.Store.{put_each};
@@ -14,21 +14,22 @@ use ijson_value::value::IValue;
 use std::alloc::{AllocError, Global};
 use std::mem;
 
-/// A stack of more elements or members than this is moved rather than copied, if possible.
+/// A stack with more elements or members than this is moved instead of copied, if possible.
 const MANY_ITEMS: usize = 64;
 
-/// The elements, members and string content that are in no value yet.
+/// The elements, members and string content that are not part of a value yet.
 #[derive(Drop)]
 pub(crate) struct Scratch {
     /// A stack of the elements of the open arrays, the innermost array on top.
     pub(crate) values: Vec<IValue>,
     /// A stack of the members of the open objects, the innermost object on top.
     pub(crate) members: Vec<(IString, IValue)>,
-    /// The content of a string with an escape.
+    /// A buffer for the content of a string with an escape.
     pub(crate) content: String,
 }
 
-/// Pushes `read`, and reads the delimiter after it, in a container that `closing` closes.
+/// Pushes `read`, and reads the delimiter after it, in a container that the bracket `closing`
+/// closes.
 #[tactic(auto, using(crate::proofs::faults::ElementFaults::behind_element))]
 #[inline(always)]
 pub(crate) fn push_read<'a, T: Drop>(
@@ -46,10 +47,10 @@ pub(crate) fn push_read<'a, T: Drop>(
     read_delimiter(after, closing)
 }
 
-/// Pops the elements from index `base` on.
+/// Removes the elements from index `base` on, and returns them as a list.
 ///
-/// If `base` is 0 and the stack has more than 64 elements, copies none: returns the list of the stack, with its capacity, and leaves an
-/// empty list.
+/// If `base` is 0 and the stack has more than 64 elements, moves the list of the stack instead of
+/// copying elements. Afterwards the stack is empty and has capacity 0.
 fn take_from<T: Drop>(alloc: Global, stack: &mut Vec<T>, base: usize) -> Result<Vec<T>, AllocError>
     requires { base ≤ length stack.old.items }
     ensures taken { IfOk result (λ taken. taken.items ≡ drop base stack.old.items) }
@@ -64,7 +65,10 @@ fn take_from<T: Drop>(alloc: Global, stack: &mut Vec<T>, base: usize) -> Result<
     stack.split_off(base)
 }
 
-/// Pops the elements from index `base` on as an array, with no spare capacity or that of the stack.
+/// Removes the elements from index `base` on, and returns them as an array.
+///
+/// The array has the capacity of the stack if `take_from` moved the stack, otherwise no spare
+/// capacity.
 pub(crate) fn take_items(
     alloc: Global,
     stack: &mut Vec<IValue>,
@@ -80,7 +84,7 @@ pub(crate) fn take_items(
     Ok(IArray::from_vec(alloc, items)?)
 }
 
-/// Pops the members from index `base` on as an object without spare capacity.
+/// Removes the members from index `base` on, and returns them as an object without spare capacity.
 pub(crate) fn take_members(
     alloc: Global,
     stack: &mut Vec<(IString, IValue)>,
@@ -91,7 +95,7 @@ pub(crate) fn take_members(
         object.pairs ≡ put_each [] (drop base stack.old.items)) }
     ensures room { IfOk result (λ object. object.capacity ≡ length object.pairs) }
     ensures stack { OnOk result (stack.new.items ≡ take base stack.old.items) }
-    // The stack itself is taken if it contains only this object and is large.
+    // If `take_from` moved the list of the stack, the new stack has capacity 0.
     ensures spent { OnOk result (base ≡ 0 → 64 < length stack.old.items → vec_capacity stack.new ≡ 0) }
 {
     let members = take_from(alloc, stack, base)?;
@@ -100,7 +104,7 @@ pub(crate) fn take_members(
     if object.len() == read {
         return Ok(object);
     }
-    // repeated keys left room
+    // Duplicate keys leave spare capacity.
     match object.shrink_to_fit() {
         Ok(()) => Ok(object),
         Err(_) => {

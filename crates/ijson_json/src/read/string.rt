@@ -1,4 +1,4 @@
-//! Reading a string.
+//! Reading of strings and keys.
 
 ghost use Rattle.std.specs.Prelude.{◌≡◌, ◌≢◌, ◌++◌, ◌∷◌, List, ℕ, IfOk, IfErr, OnErr, MatchResult};
 ghost use Rattle.std.specs.String.{string_bytes};
@@ -18,7 +18,7 @@ use crate::scan::space::skip_space;
 use ijson_string::{IString, StringCache};
 use std::hash::BuildHasher;
 
-/// Appends the rest of a string's content, from an escape on, and returns the text after the quote.
+/// Appends the content of a string from an escape on, and returns the text after the closing quote.
 fn push_content<'a>(content: &mut String, text: &'a str) -> Result<&'a str, Fault>
     requires escape { Past is_unescaped text.now }
     requires unclosed { (behind : List ℕ) → text.now ≢ 34 ∷ behind }
@@ -40,9 +40,10 @@ fn push_content<'a>(content: &mut String, text: &'a str) -> Result<&'a str, Faul
     }
 }
 
-/// Returns the content of a string after its opening quote, and the text after the closing one.
+/// Returns the content of a string and the text after the closing quote.
 ///
-/// If the string has an escape, its content is built in `content`, which is overwritten.
+/// `inside` is the text after the opening quote. If the string has an escape, its content is built
+/// in `content`, which is overwritten.
 #[inline(always)]
 fn read_content<'a: 'c, 'c>(
     content: &'c mut String,
@@ -62,7 +63,7 @@ fn read_content<'a: 'c, 'c>(
     Ok((content.as_str(), rest))
 }
 
-/// Reads the leading string, interned in `cache`, and returns the text after it.
+/// Reads the leading string and interns it in `cache`. Returns the string and the text after it.
 ///
 /// `content` is the buffer of `read_content`.
 pub(crate) fn read_string<'a, S: BuildHasher>(
@@ -84,7 +85,10 @@ pub(crate) fn read_string<'a, S: BuildHasher>(
     Ok((string, rest))
 }
 
-/// Reads the leading key, like any string, the `:` and white space, and returns the text after them.
+/// Reads the leading key, its `:` and white space. Returns the key and the text after the white
+/// space.
+///
+/// `content` is the buffer of `read_content`.
 pub(crate) fn read_key<'a, S: BuildHasher>(
     cache: &mut StringCache<S>,
     content: &mut String,

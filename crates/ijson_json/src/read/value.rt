@@ -1,4 +1,4 @@
-//! Reading a value of any kind: arrays and objects here, the others by `scalar`.
+//! Reading of any value: arrays and objects here, all other values in `scalar`.
 
 ghost use Rattle.std.specs.Prelude.{◌≡◌, ◌≢◌, ◌⊎◌, ◌∷◌, ◌<◌, ◌≤◌, IsTrue, IsFalse};
 ghost use Rattle.ijson_json.specs.Limits.{max_depth};
@@ -30,7 +30,7 @@ fn opens_container(byte: u8) -> bool
     byte == b'[' || byte == b'{'
 }
 
-/// Reads the leading value, inside `opened` containers.
+/// Reads the leading value, with `opened` containers open. Returns the value and the text after it.
 #[cycle(read)]
 #[inline(always)]
 pub(crate) fn read_value<'a, S: BuildHasher>(
@@ -54,8 +54,9 @@ pub(crate) fn read_value<'a, S: BuildHasher>(
 
 /// Reads the leading array or object, which begins with the bracket `first`.
 ///
-/// It fails if the maximum number of containers is open. It is inlined, and its callees are not: so a scalar has no memory slot, and the
-/// return slot of a container is zeroed only for containers.
+/// Fails if the maximum number of containers is open. The function is inlined, but its callees are
+/// not. A scalar is therefore returned without a memory slot, and the return slot of a container is
+/// zeroed only for containers.
 #[cycle(read)]
 #[inline(always)]
 fn read_container<'a, S: BuildHasher>(
@@ -84,9 +85,10 @@ fn read_container<'a, S: BuildHasher>(
     Ok((container, rest))
 }
 
-/// Reads the elements of an array, after its opening bracket.
+/// Reads the elements of an array. `inside` is the text after the opening bracket.
 ///
-/// They are collected on the stack in `scratch`, so that each array is allocated once, in its final size.
+/// The elements are collected on a stack in `scratch`, so that each array is allocated once, in its
+/// final size.
 #[cycle(read)]
 #[inline(never)]
 fn read_array<'a, S: BuildHasher>(
@@ -116,7 +118,9 @@ fn read_array<'a, S: BuildHasher>(
     }
 }
 
-/// Reads the members of an object, after its opening bracket. A duplicate key replaces the value.
+/// Reads the members of an object. `inside` is the text after the opening bracket.
+///
+/// A duplicate key replaces the value.
 #[cycle(read)]
 #[inline(never)]
 fn read_object<'a, S: BuildHasher>(

@@ -21,7 +21,7 @@ pub(crate) fn split_ascii(text: &str) -> Option<(u8, &str)>
     }
 }
 
-/// Strips `byte`, if the text begins with it.
+/// Strips `byte` from the start of `text`. Returns `None` if `text` does not begin with `byte`.
 #[tactic(auto, using(crate::proofs::scanning::CharBoundaries::after_first))]
 pub(crate) fn strip_byte(text: &str, byte: u8) -> Option<&str>
     requires { byte < 128 }
@@ -44,7 +44,9 @@ fn common_length(text: &str, word: &str) -> usize
     bytes.take_while(|(a, b)| a == b).count()
 }
 
-/// Strips `word`. If the text does not begin with it, the fault is at the first byte that differs.
+/// Strips `word` from the start of `text`.
+///
+/// If `text` does not begin with `word`, the fault is at the first byte that differs.
 pub(crate) fn strip_word<'a>(text: &'a str, word: &str) -> Result<&'a str, Fault>
     ensures { MatchResult result
         (λ rest. text.now ≡ word.now ++ rest.now)

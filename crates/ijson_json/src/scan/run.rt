@@ -1,4 +1,4 @@
-//! Runs of bytes that need no escape in a string.
+//! Runs of unescaped bytes in a string.
 
 ghost use Rattle.std.specs.Prelude.{◌≡◌, ◌+◌, ◌*◌, ◌^◌, ◌<◌, ◌≤◌, ◌++◌, ℕ, List, IfOk, IsTrue, ◌↔◌, drop, length, map, not, take};
 ghost use Rattle.std.specs.List.{AllByRecursion, prefix_len};
@@ -14,7 +14,7 @@ use std::simd::prelude::*;
 
 /// Returns the number of leading unescaped bytes. Scalar version.
 ///
-/// Its precondition of fewer than 4 bytes prevents it from replacing the vector version.
+/// Because of the precondition, the prover rejects this function in place of the vector version.
 fn run_by_bytes(bytes: &[u8]) -> usize
     requires { length bytes.now < 4 }
     ensures { result ≡ prefix_len is_unescaped bytes.now }
@@ -25,7 +25,8 @@ fn run_by_bytes(bytes: &[u8]) -> usize
     special.unwrap_or(bytes.len())
 }
 
-/// Returns a mask of the bytes that need an escape or end the string, the lowest bit for the first.
+/// Returns a mask of the bytes that must be escaped or end the string. The lowest bit is the first
+/// byte.
 #[inline(always)]
 fn specials<const N: usize>(bytes: Simd<u8, N>) -> u64
     requires { N ≤ 64 }
@@ -36,7 +37,7 @@ fn specials<const N: usize>(bytes: Simd<u8, N>) -> u64
         | bytes.simd_lt(Simd::splat(b' '))).to_bitmask()
 }
 
-/// Like `specials`, with a bit after them for the end, so no branch tests whether the bytes ended.
+/// Like `specials`, but also sets the bit after the last byte, so that no branch tests for the end.
 #[tactic(auto, using(crate::proofs::scanning::SpecialMasks::end_marked))]
 fn specials_and_end<const N: usize>(bytes: Simd<u8, N>) -> u64
     requires { N < 64 }
@@ -45,7 +46,9 @@ fn specials_and_end<const N: usize>(bytes: Simd<u8, N>) -> u64
     specials(bytes) | 1 << N
 }
 
-/// Returns the end of the run from `start`, in N to 2 * N bytes, by testing the first and last N.
+/// Returns the end of the run from `start`, in a slice of N to 2 * N bytes.
+///
+/// Tests the first N and the last N bytes, which may overlap.
 #[tactic(auto, using(crate::proofs::scanning::SpecialMasks::run_in_two))]
 fn run_end_in_two<const N: usize>(bytes: &[u8], start: usize) -> usize
     requires { (N < 32) × (N ≤ length bytes.now) × (length bytes.now ≤ 2 * N) × (start ≤ length bytes.now) }
@@ -58,10 +61,11 @@ fn run_end_in_two<const N: usize>(bytes: &[u8], start: usize) -> usize
     start + (found >> start).trailing_zeros() as usize
 }
 
-/// Returns the end of the run from `start`.
+/// Returns the end of the run from `start`, if fewer than 16 bytes are left.
 ///
-/// Fewer than 16 bytes must be left. Of 16 bytes or more in all, tests the last 16 and shifts out the bits before `start`; of 4 to 15
-/// bytes, tests two overlapping vectors; of fewer, tests each byte.
+/// - A slice of at least 16 bytes: tests the last 16 and shifts out the bits before `start`.
+/// - A slice of 4 to 15 bytes: tests two overlapping vectors.
+/// - A shorter slice: tests each byte.
 #[tactic(auto, using(crate::proofs::scanning::SpecialMasks::run_in_last))]
 fn last_run_end(bytes: &[u8], start: usize) -> usize
     requires { (start ≤ length bytes.now) × (length bytes.now < start + 16) }
@@ -80,9 +84,11 @@ fn last_run_end(bytes: &[u8], start: usize) -> usize
     }
 }
 
-/// Returns `true` if the first `count` bytes of `row`, an inline string's bytes, are unescaped.
+/// Returns `true` if the first `count` bytes of `row`, an inline string padded to 7 bytes, are
+/// unescaped.
 ///
-/// `count` is tested too: it is stored before the bytes, and all eight are one word.
+/// An inline string stores `count` before its bytes, so all eight bytes are loaded as one word. The
+/// bit of `count` is shifted out of the mask.
 #[inline(always)]
 pub(crate) fn begins_unescaped(row: &str, count: u8) -> bool
     requires { length row.now ≡ 7 }
@@ -95,7 +101,7 @@ pub(crate) fn begins_unescaped(row: &str, count: u8) -> bool
     u32::from(count) <= (found >> 1).trailing_zeros()
 }
 
-/// Returns the end of the run from `start`, testing 16 bytes at a time.
+/// Returns the end of the run from `start`. Tests 16 bytes at a time.
 fn run_end(bytes: &[u8], start: usize) -> usize
     requires { start ≤ length bytes.now }
     ensures { result ≡ start + prefix_len is_unescaped (drop start bytes.now) }
@@ -111,10 +117,10 @@ fn run_end(bytes: &[u8], start: usize) -> usize
     last_run_end(bytes, at)
 }
 
-/// Appends the leading unescaped bytes, and returns their number.
+/// Appends the leading unescaped bytes to `content`, and returns their number.
 ///
-/// All 16 bytes of a block are appended, and those after the run truncated: a copy of a size unknown at compile time is a call that
-/// branches on the size.
+/// Appends whole blocks of 16 bytes, then truncates the bytes after the run. A copy of a size
+/// unknown at compile time would be a call that branches on the size.
 fn append_run(content: &mut Vec<u8>, bytes: &[u8]) -> Result<usize, AllocError>
     ensures count { IfOk result (λ n. n ≡ prefix_len is_unescaped bytes.now) }
     ensures run { IfOk result (λ n. content.new.items ≡ content.old.items ++ take n bytes.now) }
@@ -136,7 +142,8 @@ fn append_run(content: &mut Vec<u8>, bytes: &[u8]) -> Result<usize, AllocError>
     Ok(end)
 }
 
-/// Appends the longest leading run of unescaped bytes, and returns the rest.
+/// Appends the longest leading run of unescaped bytes to `content`, and returns the text after the
+/// run.
 ///
 /// If an allocation fails, `content` is empty.
 pub(crate) fn push_run<'a>(content: &mut String, text: &'a str) -> Result<&'a str, AllocError>
@@ -152,9 +159,10 @@ pub(crate) fn push_run<'a>(content: &mut String, text: &'a str) -> Result<&'a st
     Ok(rest)
 }
 
-/// Returns the longest run of unescaped bytes from `start` on, and the rest.
+/// Returns the longest run of unescaped bytes from `start` on, and the text after the run.
 ///
-/// It takes the whole text, so that the last few bytes can be tested together with those before them.
+/// Takes the whole text, so that the last few bytes can be tested together with the bytes before
+/// them.
 pub(crate) fn split_run(text: &str, start: usize) -> (&str, &str)
     requires { IsCharBoundary text.now start }
     ensures whole { drop start text.now ≡ result.0.now ++ result.1.now }

@@ -1,7 +1,7 @@
 //! White space.
 //!
-//! In compact JSON it is at most one byte, in indented JSON mostly a line feed and an indent. So one or two bytes are tested individually,
-//! and more after two of them 16 bytes at a time.
+//! Compact JSON has at most one byte of white space in a row. Indented JSON mostly has a line feed
+//! and an indent. So the first two bytes are tested individually, and further bytes 16 at a time.
 
 ghost use Rattle.std.specs.Prelude.{◌≡◌, ◌<◌, ◌∷◌, ℕ, IsTrue, length, map, not, MatchOption};
 ghost use Rattle.std.specs.List.{prefix_len};
@@ -11,14 +11,15 @@ ghost use Rattle.ijson_json.specs.private.Reading.{Skips, Past};
 
 use std::simd::prelude::*;
 
-/// Returns `true` for space, tab, line feed and carriage return.
+/// Returns `true` if `byte` is a space, tab, line feed or carriage return.
 fn is_white(byte: u8) -> bool
     ensures { result ≡ is_space byte }
 {
     byte == b' ' || byte == b'\n' || byte == b'\r' || byte == b'\t'
 }
 
-/// Strips one byte of white space, if the text begins with it.
+/// Strips one byte of leading white space. Returns `None` if `text` does not begin with white
+/// space.
 #[inline(always)]
 fn strip_white(text: &str) -> Option<&str>
     ensures { MatchOption result (Past is_space text.now)
@@ -32,7 +33,7 @@ fn strip_white(text: &str) -> Option<&str>
     }
 }
 
-/// Strips the leading white space.
+/// Strips all leading white space.
 pub(crate) fn skip_space(text: &str) -> &str
     ensures { Skips text.now result.now }
 {
@@ -45,7 +46,8 @@ pub(crate) fn skip_space(text: &str) -> &str
     }
 }
 
-/// Like `skip_space`, but tests 16 bytes at a time. `skip_space` calls it after two bytes of white space.
+/// Like `skip_space`, but tests 16 bytes at a time. `skip_space` calls it after two bytes of white
+/// space.
 #[tactic(auto, using(crate::proofs::scanning::WhiteSpace::run_skipped, crate::proofs::scanning::WhiteSpace::space_boundary))]
 #[inline(never)]
 fn skip_indent(text: &str) -> &str
@@ -54,7 +56,7 @@ fn skip_indent(text: &str) -> &str
     &text[space_length(text.as_bytes())..]
 }
 
-/// Returns the number of leading white-space bytes, testing 16 at a time.
+/// Returns the number of leading white-space bytes. Tests 16 bytes at a time.
 fn space_length(bytes: &[u8]) -> usize
     ensures { result ≡ prefix_len is_space bytes.now }
 {
@@ -69,7 +71,7 @@ fn space_length(bytes: &[u8]) -> usize
     at + space_by_bytes(&bytes[at..])
 }
 
-/// Returns a mask of the bytes that are not white space, the lowest bit for the first.
+/// Returns a mask of the bytes that are not white space. The lowest bit is the first byte.
 #[inline(always)]
 fn others(bytes: u8x16) -> u64
     ensures { result ≡ mask_l (map (λ byte. not (is_space byte)) bytes) }
@@ -80,7 +82,7 @@ fn others(bytes: u8x16) -> u64
 
 /// Returns the number of leading white-space bytes. Scalar version.
 ///
-/// Its precondition of fewer than 16 bytes prevents it from replacing the vector version.
+/// Because of the precondition, the prover rejects this function in place of the vector version.
 fn space_by_bytes(bytes: &[u8]) -> usize
     requires { length bytes.now < 16 }
     ensures { result ≡ prefix_len is_space bytes.now }

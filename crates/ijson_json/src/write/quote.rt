@@ -1,4 +1,4 @@
-//! Writing strings, and keys with their delimiters.
+//! Writing of strings, and of keys with their delimiters.
 
 ghost use Rattle.std.specs.Prelude.{◌≡◌, ◌≢◌, ◌++◌, ◌∷◌, [], ◌/◌, ◌%◌, ◌<◌, ◌≤◌, false, length, OnOk, OnErr, Some};
 ghost use Rattle.std.specs.List.{prefix_len};
@@ -14,7 +14,7 @@ use crate::scan::run::{begins_unescaped, split_run};
 use ijson_string::IString;
 use std::alloc::AllocError;
 
-/// Returns a hexadecimal digit, in lower case.
+/// Returns the lower-case hexadecimal digit of `digit`.
 fn hex_letter(digit: u8) -> char
     requires { digit < 16 }
     ensures { result ≡ hex_text digit }
@@ -39,16 +39,17 @@ fn push_unicode(out: &mut String, control: u8) -> Result<(), AllocError>
     out.push(hex_letter(control % 16))
 }
 
-/// The letter after the backslash in each byte's escape; `u` for a byte without its own.
+/// The letter after the backslash in the escape of each byte. A byte without a letter has `u`.
 ///
-/// A table costs the same for each byte; a jump on the byte would rarely be predicted.
+/// A table lookup costs the same for each byte, while the branch predictor rarely predicts a jump
+/// on the byte.
 static LETTERS: [u8; 128] = *b"\
     uuuuuuuubtnufruuuuuuuuuuuuuuuuuu\
     uu\"uuuuuuuuuuuuuuuuuuuuuuuuuuuuu\
     uuuuuuuuuuuuuuuuuuuuuuuuuuuu\\uuu\
     uuuuuuuuuuuuuuuuuuuuuuuuuuuuuuuu";
 
-/// Appends the escape of a byte that needs one.
+/// Appends the escape of a byte that must be escaped.
 #[inline(always)]
 fn push_escape(out: &mut String, byte: u8) -> Result<(), AllocError>
     requires { is_unescaped byte ≡ false }
@@ -66,11 +67,13 @@ fn push_escape(out: &mut String, byte: u8) -> Result<(), AllocError>
 
 /// Appends `text` in quotes, with its escapes.
 ///
-/// It escapes `"`, `\`, and bytes below a space: by a letter if there is one, otherwise like `\u001f`. It takes time linear in the text.
+/// Escapes `"`, `\` and bytes below a space: with a letter if there is one, otherwise like
+/// `\u001f`. Takes time linear in `text`.
 ///
 /// # Errors
 ///
-/// Returns `AllocError` if an allocation fails. A beginning of the new bytes may have been appended.
+/// Returns `AllocError` if an allocation fails. A beginning of the new bytes may have been
+/// appended.
 pub fn push_quoted(out: &mut String, text: &str) -> Result<(), AllocError>
     ensures written { OnOk result (string_bytes out.new ≡ string_bytes out.old ++ quoted text.now) }
     ensures refused { OnErr result (WritesBeginning (Some (string_bytes out.old)) (Some (string_bytes out.new))
@@ -80,13 +83,14 @@ pub fn push_quoted(out: &mut String, text: &str) -> Result<(), AllocError>
     push_escaped(out, text, "\"")
 }
 
-/// Appends a comma unless `is_first`, the key as by `push_quoted`, and a colon.
+/// Appends a comma unless `is_first`, then the key in quotes as by `push_quoted`, then a colon.
 ///
-/// It takes time linear in the key.
+/// Takes time linear in the key.
 ///
 /// # Errors
 ///
-/// Returns `AllocError` if an allocation fails. A beginning of the new bytes may have been appended.
+/// Returns `AllocError` if an allocation fails. A beginning of the new bytes may have been
+/// appended.
 pub fn push_key(out: &mut String, key: &str, is_first: bool) -> Result<(), AllocError>
     ensures written { OnOk result (string_bytes out.new ≡ string_bytes out.old ++ key_text is_first key.now) }
     ensures refused { OnErr result (WritesBeginning (Some (string_bytes out.old)) (Some (string_bytes out.new))
@@ -98,7 +102,7 @@ pub fn push_key(out: &mut String, key: &str, is_first: bool) -> Result<(), Alloc
 
 /// Appends the opening quote of a key, after a comma unless `is_first`.
 ///
-/// Appending both in one call is faster than one by one.
+/// Appending both bytes in one call is faster than in two.
 #[inline(always)]
 fn push_opening(out: &mut String, is_first: bool) -> Result<(), AllocError>
     ensures written { OnOk result (string_bytes out.new ≡ string_bytes out.old ++ (separator is_first ++ 34 ∷ [])) }
@@ -110,7 +114,7 @@ fn push_opening(out: &mut String, is_first: bool) -> Result<(), AllocError>
     out.push_str(",\"")
 }
 
-/// Appends a string in quotes, as by `push_quoted`.
+/// Like `push_quoted`, but for an `IString`.
 pub(crate) fn push_string(out: &mut String, text: &IString) -> Result<(), AllocError>
     ensures { OnOk result (string_bytes out.new ≡ string_bytes out.old ++ quoted text.now) }
 {
@@ -118,7 +122,7 @@ pub(crate) fn push_string(out: &mut String, text: &IString) -> Result<(), AllocE
     push_text(out, text, "\"")
 }
 
-/// Appends the key of a member with its delimiters, as by `push_key`.
+/// Like `push_key`, but for an `IString`.
 #[inline(always)]
 pub(crate) fn push_member_key(
     out: &mut String,
@@ -131,10 +135,11 @@ pub(crate) fn push_member_key(
     push_text(out, key, "\":")
 }
 
-/// Appends a string with its escapes, and `end`.
+/// Appends a string with its escapes, then `end`.
 ///
-/// Most keys are short and have no escape. The whole block of such a string is appended, and the rest truncated: a copy of a size unknown
-/// at compile time is a call that branches on the size.
+/// Most keys are inline and have no escape. Such a string is appended with its padding, which is
+/// then truncated. A copy of a size unknown at compile time would be a call that branches on the
+/// size.
 #[inline(always)]
 fn push_text(out: &mut String, text: &IString, end: &str) -> Result<(), AllocError>
     requires { end.now ≢ [] }
@@ -151,9 +156,9 @@ fn push_text(out: &mut String, text: &IString, end: &str) -> Result<(), AllocErr
     }
 }
 
-/// Slow path of `push_text`: for a string that is not inline or has an escape.
+/// Slow path of `push_text`, for a string that is not inline or has an escape.
 ///
-/// Its precondition rejects a narrower test before the call.
+/// Because of the precondition, the prover rejects a caller that also sends other strings here.
 #[inline(always)]
 fn push_slow(out: &mut String, text: &IString, end: &str) -> Result<(), AllocError>
     requires end { end.now ≢ [] }
@@ -163,7 +168,7 @@ fn push_slow(out: &mut String, text: &IString, end: &str) -> Result<(), AllocErr
     push_escaped(out, text.as_str(), end)
 }
 
-/// Appends `text` with its escapes, and `end`.
+/// Appends `text` with its escapes, then `end`.
 #[inline(always)]
 fn push_escaped(out: &mut String, text: &str, end: &str) -> Result<(), AllocError>
     requires { end.now ≢ [] }

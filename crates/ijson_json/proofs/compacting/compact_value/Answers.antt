@@ -29,7 +29,7 @@ err_inj h = cc
 
 module _ (r : Result WellFormed CompactError) (left rest got got' : Option (List ℕ)) (before after failed failed' : ℕ)
     (old new : Texts) where
-  -- the clauses, for a result and the states before and after it
+  -- The clauses of `compact_value`, for a result `r` and the states before and after the call.
   abbrev Compacted : Type 0
   Compacted = record {
     read : (r ≡ Err errors.Read) ↔ (before < after);
@@ -63,7 +63,8 @@ module _ (r : Result WellFormed CompactError) (left rest got got' : Option (List
     value = tt;
   })
 
--- before anything is written
+-- If an error occurs before anything is written, the clauses about reading and the cache imply all
+-- clauses of `compact_value`.
 unwritten : (r : Result WellFormed CompactError) (left rest got : Option (List ℕ)) (before after failed : ℕ) (old new : Texts)
     (e : CompactError) → r ≡ Err e → ((e ≡ errors.Read) ↔ (before < after)) → e ≢ errors.Write → e ≢ errors.Json json.Memory
     → IfSome left (λ bytes. IsCompactRefusal bytes e) → AddsOnlyLeft left old new
@@ -71,7 +72,7 @@ unwritten : (r : Result WellFormed CompactError) (left rest got : Option (List �
 unwritten r left rest got before after failed old new e is read not_write = refused r left rest got got before after failed failed old new
     e is read ((λ q. absurd (not_write q)), (λ l. absurd (omega (arith, l)))) (λ q. absurd (not_write q)) (λ _. Keeps-refl got)
 
--- no claim about the bytes
+-- A property that always holds also holds for the bytes of a source, known or unknown.
 unsaid : (left : Option (List ℕ)) → IfSome left (λ _. ⊤)
 unsaid None = tt
 unsaid (Some bytes) = tt
@@ -96,14 +97,15 @@ returns-in_err-text g c =
     c.args.cache.now c.args.cache.now e (p.1 ∙ ap Err p.2) ((λ q. found.read.0 (ap Err q)), (λ l. err_inj (found.read.1 l)))
     error.0 error.1 error.2 (read.0, read.1, adds_none read.0 c.args.cache.now) (λ _. refl)
 
--- all remaining bytes were read
+-- If a source is at its end after reading `bytes`, its known remaining bytes were `bytes`.
 all_read : (left rest : Option (List ℕ)) (bytes : List ℕ) → Consumes left rest bytes → IsAtEnd rest
     → IfSome left (λ xs. (xs ≡ bytes) × (rest ≡ Some []))
 all_read None rest bytes read end = tt
 all_read (Some xs) None bytes read end = absurd read
 all_read (Some xs) (Some ys) bytes read end = (read ∙ ap (λ l. bytes ++ l) end ∙ append-nil bytes, ap Some end)
 
--- a property of the bytes read is one of the bytes that remained
+-- If `P` holds for the bytes read, and the source is at its end, `P` holds for the source's known
+-- bytes.
 said : (P : List ℕ → Type 0) (left rest : Option (List ℕ)) (bytes : List ℕ) → IfSome left (λ xs. (xs ≡ bytes) × (rest ≡ Some []))
     → (rest ≡ Some [] → P bytes) → IfSome left P
 said P None rest bytes is p = tt
@@ -139,7 +141,7 @@ line_error left K errors.Write h = ((λ q. cc), (λ q. cc), (λ q. cc), unsaid l
 line_error left K errors.Memory h = ((λ q. cc), (λ q. cc), (λ q. cc), unsaid left)
 line_error left K e h = let m = (h (λ q. cc)).0 in absurd cc
 
--- the line, or an error of building and writing it
+-- The clauses of `compact_value` hold after `write_line`, with its value or its error.
 line : (r : Result WellFormed CompactError) (left rest got got' : Option (List ℕ)) (before after failed failed' : ℕ) (old new : Texts)
     (bytes : List ℕ) (v : WellFormed) → IfSome left (λ xs. (xs ≡ bytes) × (rest ≡ Some [])) → IsUtf8 bytes → Accepted bytes v.tree
     → AreShared new v.tree → AddsOnlyRead bytes old new → (before < after → ⊥)

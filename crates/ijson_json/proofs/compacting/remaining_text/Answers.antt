@@ -8,7 +8,7 @@ use Rattle.ijson_json.specs.declared.device.transfer.ReadFault.{ReadFault}
 use Rattle.ijson_json.specs.declared.device.transfer.ReadFault.TheVariants as faults
 use Rattle.ijson_json.proofs.compacting.remaining_text.Goals as goal
 
--- the result for a fault of the reading
+-- The clauses of `remaining_text` hold if reading the source fails.
 read_fault : {S T : Type 0} (P : T → Type 0) (r : Result T CompactError) (left : Option (List ℕ)) (before after : ℕ) (fault : ReadFault)
     → r ≡ Err (compact_error_of_read_fault fault)
     → (◌≡◌ {A = Result S ReadFault} (Err fault) (Err faults.Device) → after ≡ before + 1)

@@ -6,13 +6,13 @@ use Rattle.ijson_json.specs.Print.{print, print_items, print_members}
 use Rattle.ijson_json.proofs.writing.Joined.{joined, item_texts, member_texts}
 use Rattle.ijson_json.proofs.write.+push.Given as goal
 
--- writing the remaining elements completes the whole
+-- The text written so far and the text of the remaining elements are together the whole text.
 abbrev pub invariant-push_items-loop-item : goal.invariant-push_items-loop-item
 invariant-push_items-loop-item l =
     string_bytes l.initial.out ++ print_items (item_trees l.items) ≡ string_bytes l.out ++ joined l.is_first
     (item_texts print (drop l.item-index l.items))
 
--- writing the remaining members completes the whole
+-- The text written so far and the text of the remaining members are together the whole text.
 abbrev pub invariant-push_members-loop-key : goal.invariant-push_members-loop-key
 invariant-push_members-loop-key l = record {
   below : members_depth (pair_trees l.key-iterator) ≤ members_depth (pair_trees l.fn.object.pairs);

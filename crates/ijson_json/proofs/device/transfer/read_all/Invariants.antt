@@ -2,7 +2,7 @@ use Rattle.std.proofs.Common.{◌≡◌, ◌≤◌, take, vec_len}
 use Rattle.std.specs.Io.KnownBytes.{Consumes}
 use Rattle.ijson_json.proofs.device.transfer.read_all.Given as goal
 
--- the first `filled` bytes were read, at least one in each iteration
+-- The first `filled` bytes of the buffer were read from the source, at least one in each iteration.
 abbrev pub invariant-loop : goal.invariant-loop
 invariant-loop g l = record {
   given : Consumes (g.R.Source.left l.initial.input) (g.R.Source.left l.input) (take l.filled l.bytes.items);

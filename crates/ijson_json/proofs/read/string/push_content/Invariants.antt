@@ -8,7 +8,8 @@ use Rattle.ijson_json.specs.private.Reading.{Past}
 use Rattle.ijson_json.proofs.reading.StringContent.{Appended}
 use Rattle.ijson_json.proofs.read.string.push_content.Given as goal
 
--- the content so far was read and appended, and the rest, which does not begin with the closing quote, is left
+-- The content before `left` was appended, and `left` begins with neither an unescaped byte nor a
+-- quote.
 abbrev pub invariant-loop-character : goal.invariant-loop-character
 invariant-loop-character l = record {
   utf8 : shadow (Utf8 l.left);

@@ -42,7 +42,7 @@ read_container-returns-then-opened-eq-MAX_DEPTH g t c = record {
       c.if-opened-eq-MAX_DEPTH.true;
 }
 
--- a value read after the bracket is one of the whole text
+-- A value that was read from `b ∷ inside` was read from `text`, if `text` is `b ∷ inside`.
 bracketed : {opened : ℕ} {r s : Result (WellFormed × Bor (List ℕ)) Fault} {old new last : Texts} {before after final : Scratch}
     (text inside : List ℕ) (first b : ℕ) → text ≡ first ∷ inside → first ≡ b → s ≡ r → last ≡ new → final ≡ after
     → ReadsValue opened (b ∷ inside) r old new before after → ReadsValue opened text s old last before final

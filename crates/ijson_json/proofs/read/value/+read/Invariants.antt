@@ -21,7 +21,7 @@ decreases-read_value g l = 4 * (max_depth - l.opened) + 2
 abbrev pub decreases-read_container : goal.decreases-read_container
 decreases-read_container g l = 4 * (max_depth - l.opened) + 1
 
--- some elements were read, and another begins at the rest
+-- Some elements of the array were read and are on the stack, and the next element begins at `rest`.
 abbrev pub invariant-read_array-loop-item : goal.invariant-read_array-loop-item
 invariant-read_array-loop-item g l = record {
   read : Gathered Tree items_shape arrays kept_items l.opened (91 ∷ l.inside) l.rest l.fn.scratch.values.items l.scratch.values.items
@@ -33,7 +33,7 @@ invariant-read_array-loop-item g l = record {
 abbrev pub decreases-read_array-loop-item : goal.decreases-read_array-loop-item
 decreases-read_array-loop-item g l = length l.rest
 
--- some members were read, and another begins at the rest
+-- Some members of the object were read and are on the stack, and the next member begins at `rest`.
 abbrev pub invariant-read_object-loop-key : goal.invariant-read_object-loop-key
 invariant-read_object-loop-key g l = record {
   read : Gathered (List ℕ × Tree) members_shape objects kept_members l.opened (123 ∷ l.inside) l.rest l.fn.scratch.members.items

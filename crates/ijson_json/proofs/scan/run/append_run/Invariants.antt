@@ -3,7 +3,7 @@ use Rattle.std.specs.List.{prefix_len}
 use Rattle.ijson_json.specs.Strings.{is_unescaped}
 use Rattle.ijson_json.proofs.scan.run.append_run.Given as goal
 
--- all bytes before `at` are unescaped and were appended
+-- All bytes before `at` are unescaped and were appended.
 abbrev pub invariant-loop-at : goal.invariant-loop-at
 invariant-loop-at l = record {
   unescaped : prefix_len is_unescaped l.bytes ≡ l.at + prefix_len is_unescaped (drop l.at l.bytes);

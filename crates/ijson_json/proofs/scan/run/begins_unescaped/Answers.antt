@@ -7,7 +7,7 @@ use Rattle.ijson_json.specs.Strings.{is_unescaped}
 use Rattle.ijson_json.proofs.scanning.SpecialMasks.{run_in_last}
 use Rattle.ijson_json.proofs.scan.run.begins_unescaped.Goals as goal
 
--- a block consists of its seven bytes
+-- The list of the first seven bytes of `row`.
 abbrev bytes_of : List ℕ → List ℕ
 bytes_of row = get_or row 0 0 ∷ get_or row 1 0 ∷ get_or row 2 0 ∷ get_or row 3 0 ∷ get_or row 4 0 ∷ get_or row 5 0 ∷ get_or row 6 0 ∷ []
 

@@ -43,7 +43,7 @@ returns-in_err-push_escape-clause-refused c =
 pub push_escape-requires : goal.push_escape-requires
 push_escape-requires c = rw c.in-Some.ensures.cases at c.split_run.ensures.stops
 
--- the rest after a run and the byte that ends it
+-- If `b` ends the run from `start`, the text after `b` begins at `start + (length run + 1)`.
 rest_after : (text run after rest : List ℕ) (b start : ℕ) → drop start text ≡ run ++ after → after ≡ b ∷ rest
     → rest ≡ drop (start + (length run + 1)) text
 rest_after text run after rest b start e f =

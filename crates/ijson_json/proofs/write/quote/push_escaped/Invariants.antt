@@ -4,7 +4,7 @@ use Rattle.std.specs.String.{string_bytes}
 use Rattle.ijson_json.proofs.writing.Quoting.{Escaping}
 use Rattle.ijson_json.proofs.write.quote.push_escaped.Given as goal
 
--- the text before `start` is written, and the text may be split there
+-- The text before `start` was written with its escapes, and `start` is a character boundary.
 abbrev pub invariant-loop-byte : goal.invariant-loop-byte
 invariant-loop-byte l = record {
   boundary : IsCharBoundary l.text l.start;

@@ -12,7 +12,7 @@ use Rattle.ijson_json.proofs.writing.Quoting.{all_escaped-run, written_end, on_o
 use Rattle.ijson_json.proofs.write.quote.push_text.Goals as goal
 use Rattle.ijson_json.proofs.write.quote.push_text.Goals.{in_default-via-in-Some+else-begins_unescaped, in_default-via-in_default}
 
--- an appended block is truncated to its first bytes
+-- Truncating an appended `row` leaves the first `n` bytes of `row`.
 cut_behind : (old row longer : List ℕ) (end n : ℕ) → longer ≡ old ++ row → end ≡ length old + n → take end longer ≡ old ++ take n row
 cut_behind old row longer end n is at =
     ap (λ k. take k longer) at ∙ ap (take (length old + n)) is ∙ take-append-add old row n
@@ -41,7 +41,7 @@ returns-in_ok-push_str-in-Some c =
     (written_end old (string_bytes c.truncate.new.self) c.args.text.now c.args.end.now
     (c.truncate.ensures.bytes ∙ kept ∙ ap (λ (l : List ℕ). old ++ l) (sym plain ∙ ap all_escaped c.in-Some.ensures.text)))
 
--- the string is longer than a block, or a byte of it needs an escape
+-- If the string is inline but not appended as a block, one of its bytes must be escaped.
 pub push_slow-requires-clause-is_slow : goal.push_slow-requires-clause-is_slow
 push_slow-requires-clause-is_slow c short = elim c.in_default.branch [
   | in_default-via-in_default w ↦ (
