@@ -1,6 +1,7 @@
-"""Texts of three kinds that comparisons of JSON libraries often have, for generate.py: made up, of the sizes and shapes of such files.
+"""Generates JSON texts of three kinds that comparisons of JSON libraries often have. The contents are made up.
 
-Each function gets a random generator and a size for which it writes a text in proportion: at 10,000,000 about 2.0, 1.1 and 0.6 MB.
+Each function has a random generator and a size as parameters, and returns a text in proportion to the size: at
+10,000,000 about 2.0, 1.1 and 0.6 MB.
 """
 
 import json
@@ -8,7 +9,7 @@ import math
 
 
 def coordinates(rng, size):
-    """A map without white space: polygons whose points have 15 to 17 digits each."""
+    """Returns a map without white space: polygons whose points have 15 to 17 digits each."""
     features, points = [], size // 194
     while points > 0:
         ring = ",".join(border(rng, min(points, rng.randrange(40, 4000))))
@@ -18,7 +19,7 @@ def coordinates(rng, size):
 
 
 def border(rng, count):
-    """Points on a rough circle."""
+    """Returns points on a rough circle."""
     east, north, radius = rng.uniform(-140, -50), rng.uniform(42, 83), rng.uniform(0.01, 2)
     for step in range(count):
         angle = 2 * math.pi * step / count
@@ -31,7 +32,7 @@ def digits(rng, number):
 
 
 def catalogue(rng, size):
-    """A catalogue of performances, pretty printed: ids of nine digits as keys and as values, many of them again and again, and many nulls."""
+    """Returns a catalogue of performances, pretty printed: nine-digit ids that often repeat, as keys and as values, and many nulls."""
     count = size // 35_400
     areas, seats, topics = (ids(rng, how_many) for how_many in (17, 64, 40))
     works = ids(rng, count // 6 + 1)
@@ -82,7 +83,8 @@ SYLLABLES = "あいうえおかきくけこさしすせそたちつてとなに�
 
 
 def messages(rng, size):
-    """A stream of messages in Japanese, pretty printed: the same keys in each, links, and texts from an earlier message now and then."""
+    """Returns a stream of messages in Japanese, pretty printed: the same keys in each message, links, and some texts
+    from earlier messages."""
     people = [person(rng) for _ in range(40)]
     found = []
     for _ in range(size // 40_000):

@@ -27,7 +27,7 @@ import random
 from common_kinds import catalogue, coordinates, messages
 
 
-# Bytes of an array up to which items are made; a longer one repeats them.
+# The size in bytes up to which elements of an array are generated; a longer array repeats them.
 MOST = 10_000_000
 
 
@@ -48,18 +48,18 @@ def integer(rng):
 
 
 def fraction(rng):
-    """A price, a coordinate, or a number with all the digits of a floating-point one."""
+    """Returns a price, a coordinate, or a number with all digits of a floating-point number."""
     places = rng.choice([2, 6, 13])
     return f"{rng.uniform(-1000, 1000):.{places}f}"
 
 
 def probability(rng):
-    """A number below 1 with all the digits of a floating-point one."""
+    """Returns a number below 1 with all digits of a floating-point number."""
     return repr(rng.random())
 
 
 def identifier(rng):
-    """A text that comes once."""
+    """Returns a string that occurs once."""
     return '"%08x-%04x-%04x-%04x-%012x"' % tuple(rng.getrandbits(bits) for bits in (32, 16, 16, 16, 48))
 
 
@@ -68,7 +68,7 @@ def point(rng):
 
 
 def array_of(item):
-    """What makes an array of such items up to a size."""
+    """Returns a function that generates an array of such elements, up to a size."""
 
     def make(rng, size):
         parts, total = [], 2
@@ -81,7 +81,7 @@ def array_of(item):
 
 
 def repeated(item):
-    """What makes an array of one item again and again, without white space."""
+    """Returns a function that generates an array that repeats one element, without white space."""
     return lambda rng, size: "[" + ",".join([item] * (size // (len(item) + 1))) + "]\n"
 
 
@@ -138,7 +138,7 @@ def row(rng):
 
 
 def one_object(rng, size):
-    """One object of 300,000 keys where the size is 10,000,000, and in proportion."""
+    """Returns one object, which has 300,000 keys if `size` is 10,000,000, and in proportion otherwise."""
     members = [f'"key number {i}": {i}' for i in range(size * 3 // 100)]
     rng.shuffle(members)
     return "{" + ", ".join(members) + "}\n"

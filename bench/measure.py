@@ -8,13 +8,13 @@ import sys
 from typing import NamedTuple
 
 BENCH = pathlib.Path(__file__).resolve().parent
-# Files of generate.py.
+# The files of generate.py.
 FILES = ["integers", "fractions", "objects", "strings", "mixed", "one_object"]
 COMMON_FILES = ["coordinates", "catalogue", "messages"]
 MORE_FILES = ["numbers", "arrays", "long_keys"]
-# One kind of value each, whose cost the other files hide.
+# Files with one kind of value each, whose cost is hidden in the other files.
 NARROW_FILES = ["probabilities", "identifiers", "points"]
-# Those that take much memory for a byte of text.
+# Files that take much memory per byte of text.
 WORST_FILES = ["zeros", "empty_arrays", "small_objects", "deep_objects", "deep_arrays"]
 
 
@@ -24,7 +24,7 @@ class Run(NamedTuple):
     memory: float  # MB, maximum resident
 
 
-# Figures of the runs of one program on one file.
+# The figures of the runs of one program on one file.
 FIGURES = {
     "elapsed, min": lambda runs: min(run.elapsed for run in runs),
     "elapsed, median": lambda runs: statistics.median(run.elapsed for run in runs),
@@ -35,7 +35,7 @@ FIGURES = {
 
 
 def run_once(command, path, sink=os.devnull):
-    """One run on the file as standard input."""
+    """Runs the command once, with the file as standard input."""
     once = [sys.executable, "-I", "-S", BENCH / "once.py", path, sink, *command]
     done = subprocess.run(once, stdout=subprocess.PIPE, text=True)
     if done.returncode:
@@ -45,7 +45,7 @@ def run_once(command, path, sink=os.devnull):
 
 
 def in_turns(names, turns):
-    """The names in turns: each turn has every name once and begins with another."""
+    """Yields the names in turns. Each turn has every name once, and begins with another name."""
     names = list(names)
     for turn in range(turns):
         first = turn % len(names)
@@ -53,7 +53,7 @@ def in_turns(names, turns):
 
 
 def figures(jobs, turns):
-    """The figures of each job (a command and a file, by name) from turns in which each runs once."""
+    """Returns the figures of each job (a command and a file, by name), from turns in which each job runs once."""
     runs = {name: [] for name in jobs}
     for name in in_turns(jobs, turns):
         runs[name].append(run_once(*jobs[name]))

@@ -1,8 +1,9 @@
 #!/usr/bin/env python3
-"""once.py INPUT OUTPUT COMMAND..: runs the command from the one file to the other, and prints seconds elapsed, seconds of processor time
-(in the program and in the kernel) and the maximum of resident bytes.
+"""once.py INPUT OUTPUT COMMAND..: runs the command from the file INPUT to the file OUTPUT. Prints seconds elapsed,
+seconds of processor time (in the program and in the kernel) and the maximum of resident bytes.
 
-It is a process of its own, and imports little, since the system counts the memory of the process that starts a command as the command's.
+This is a process of its own with few imports, since the system counts the memory of the process that starts a command
+as memory of the command.
 """
 
 import os

@@ -1,8 +1,11 @@
-"""Builds the programs of baseline/ over the Rust crate `ijson` from a folder of its sources.
+"""Builds the programs of baseline/ over the Rust crate `ijson`, from a folder with its sources.
 
-A file of the folder is named by its path, as src--src--value--mod.rs.txt. A body that is left out there panics. Such bodies work on numbers that are not
-integers of 64 bits, so a file with such a number is left out, and named under the tables. Objects lose their order, so they are compared as maps.
-Debian's packages librust-serde-json-dev, librust-dashmap-dev, librust-indexmap-dev and librust-lazy-static-dev have what the crate uses.
+A file of the folder is named by its path, for example src--src--value--mod.rs.txt. A body that is left out of the
+sources panics. These bodies work on numbers that are not integers of 64 bits, so a file with such a number is left out,
+and named under the tables. Objects lose their order, so they are compared as maps.
+
+Debian's packages librust-serde-json-dev, librust-dashmap-dev, librust-indexmap-dev and librust-lazy-static-dev have the
+dependencies of the crate.
 """
 
 import pathlib
@@ -28,7 +31,7 @@ lazy_static = "1"
 serde = "1"
 serde_json = "1"
 """
-# What differs in the programs from those over serde_json.
+# Differences of the programs from the programs over serde_json.
 DIFFERENT = {
     "use serde_json::Value;": "use ijson::IValue as Value;",
     "Value::as_str": "|value| value.as_string().map(|text| text.as_str())",
@@ -36,7 +39,7 @@ DIFFERENT = {
     'timed("to_json", || written(items("values")));': "",
 }
 LEFT_OUT = re.compile(r"\{ /\* body left out[^*]*\*/ \}")
-# The module on numbers of many words, of which no source is in the folder.
+# The module for numbers of many words, whose source is missing in the folder.
 MANY_WORDS = """pub(crate) const TEN: u64 = 10;
 
 pub(crate) fn is_zero(_: &[u64]) -> bool {
@@ -54,7 +57,7 @@ pub(crate) fn pow5(power: u32) -> u64 {
 
 
 def write(name, text):
-    """Writes a file of the crate unless it has this text, since cargo compares times."""
+    """Writes a file of the crate, unless it has this text already: cargo compares modification times."""
     path = CRATE / name
     path.parent.mkdir(parents=True, exist_ok=True)
     if not path.exists() or path.read_text(encoding="utf-8") != text:
@@ -62,7 +65,7 @@ def write(name, text):
 
 
 def set_up(sources):
-    """Writes the crate and its programs, which are serde_json's over another type of values."""
+    """Writes the crate and its programs, which are those over serde_json with another type of values."""
     for source in sources.glob("src--src--*.rs.txt"):
         name = source.name.removeprefix("src--").removesuffix(".txt").replace("--", "/")
         write(name, LEFT_OUT.sub("{ unimplemented!() }", source.read_text(encoding="utf-8")))
@@ -80,7 +83,7 @@ def add_option(parser):
 
 
 def programs(name, sources):
-    """The program by its name in the tables, if a folder has the sources and it could be built."""
+    """Returns the program by its name in the tables, if the sources are given and it can be built."""
     if not sources:
         return {}
     set_up(pathlib.Path(sources))
@@ -89,5 +92,5 @@ def programs(name, sources):
 
 
 def passes(sources):
-    """Like `programs`, for passes. Objects do not always keep their order."""
+    """Like `programs`, for the programs that time passes. Objects do not always keep their order."""
     return {name: peers.Library(program, False, "digits") for name, program in programs("passes", sources).items()}

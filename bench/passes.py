@@ -1,4 +1,4 @@
-"""Runs the programs that time passes within one process, and ends the benchmark if one of them writes a wrong text."""
+"""Runs the programs that time passes within one process, and ends the benchmark if a program writes a wrong text."""
 
 import hashlib
 import os
@@ -12,8 +12,11 @@ BENCH = pathlib.Path(__file__).resolve().parent
 
 
 def run_once(name, library, path, count, written, **settings):
-    """The nanoseconds of each act in each pass, or None if a body of the library is left out that the file needs. Writes the last text to the
-    file `written`. `settings` are added to the environment."""
+    """Returns the nanoseconds of each act in each pass.
+
+    Returns None if the file needs a body that is left out of the library. The last text is written to the file
+    `written`. `settings` are added to the environment.
+    """
     with open(path, "rb") as text, open(written, "wb") as output:
         command = [library.program, str(count)]
         done = subprocess.run(command, stdin=text, stdout=output, stderr=subprocess.PIPE, text=True, env=os.environ | settings)
@@ -30,7 +33,7 @@ def run_once(name, library, path, count, written, **settings):
 
 
 def check_value(name, library, path, written):
-    """Ends the benchmark if the text is not that of the value that was read, except for what the library does not keep."""
+    """Ends the benchmark if the text is not a text of the value that was read, except for properties that the library does not keep."""
     command = [sys.executable, BENCH / "same.py", "--numbers", library.numbers, path, written]
     if subprocess.run(command + ["--order"] * library.order).returncode:
         sys.exit(f"{name} does not write the value of {path}")
@@ -41,7 +44,7 @@ def digest(path):
 
 
 def passes_of(libraries, path, count, turns, work):
-    """The nanoseconds of each act in each pass of all turns, by the library, without those that cannot read the file."""
+    """Returns the nanoseconds of each act in each pass of all turns, by the library, for libraries that can read the file."""
     written = pathlib.Path(work) / "written"
     answers = {}
     for name, library in libraries.items():

@@ -1,6 +1,7 @@
-"""Builds the programs to time, and keeps them in out/. Each function returns a program's path, or None if it could not be built.
+"""Builds the programs to time, and keeps them in out/. Each function returns the path of a program, or None if it
+cannot be built.
 
-Sources of Rattle are named main.rt.txt, so that the gate does not take them for crates.
+Sources in Rattle are named main.rt.txt, so that the gate does not treat them as crates.
 """
 
 import hashlib
@@ -18,12 +19,12 @@ from callers import copy_crates, library_crates
 
 CRATES = BENCH.parent / "crates"
 KEPT = BENCH / "out"
-# Debian's packages of the peers.
+# Debian's packages that contain the peers.
 PACKAGES = ["librust-serde-json-dev", "librust-dashmap-dev", "librust-indexmap-dev", "librust-lazy-static-dev", "rapidjson-dev", "libsimdjson-dev", "jq"]
 
 
 class Library(NamedTuple):
-    """A program that times passes of a library, and what the library keeps of a text."""
+    """A program that times passes of a library, and the properties of a text that the library keeps."""
 
     program: pathlib.Path
     order: bool  # whether it keeps the order of members
@@ -31,7 +32,7 @@ class Library(NamedTuple):
 
 
 def built(command, folder, name):
-    """Whether the command succeeded; if not, prints why."""
+    """Returns True if the command succeeds; otherwise prints the reason."""
     try:
         done = subprocess.run(command, cwd=folder, input="[]", capture_output=True, text=True)
         why = done.stderr.splitlines()[-5:] if done.returncode else []
@@ -47,14 +48,14 @@ def kit_version():
 
 
 def compilers():
-    """The first line of each compiler's version."""
+    """Returns the first line of each compiler's version."""
     tools = [name for name in ("rustc", "c++", "cc") if shutil.which(name)]
     versions = (subprocess.run([name, "--version"], capture_output=True, text=True).stdout.partition("\n")[0] for name in tools)
     return "Compilers: " + ", ".join(versions) + "."
 
 
 def stamp(source, crates):
-    """A checksum of the kit, a program's source, and the files of its crates."""
+    """Returns a checksum of the kit, a program's source, and the files of its crates."""
     made_of = hashlib.sha256((kit_version() + source.read_text()).encode())
     for name in sorted(crates):
         for path in sorted(path for part in ("src", "specs", "proofs") for path in (CRATES / name / part).rglob("*") if path.is_file()):
@@ -63,8 +64,10 @@ def stamp(source, crates):
 
 
 def rattle_program(name, dependencies, crates, folder=BENCH):
-    """Proves and builds NAME/main.rt.txt of a folder in a workspace for itself, which has copies of the crates, unless the program that is kept
-    is of these sources."""
+    """Proves and builds NAME/main.rt.txt of a folder, in a workspace that has copies of the crates.
+
+    If the program in out/ was built from the same sources, it is returned instead.
+    """
     source, program, kept_stamp = folder / name / "main.rt.txt", KEPT / name, KEPT / f"{name}.stamp"
     made_of = stamp(source, crates)
     if program.exists() and kept_stamp.exists() and kept_stamp.read_text() == made_of:
@@ -83,27 +86,29 @@ def rattle_program(name, dependencies, crates, folder=BENCH):
 
 
 def kit_serde_json():
-    """The kit's own serde_json: reads a text from standard input and writes it compactly."""
+    """Returns the program over the kit's serde_json that reads a text from standard input and writes it compactly."""
     return rattle_program("kit_peer", "anyhow serde_json", {})
 
 
 def calls_of_ijson():
-    """Calls of the library. The library's crates must be built, else they are proved first, which takes long."""
+    """Returns the program that times calls of the library. If the library's crates are not built, they are proved
+    first, which takes long."""
     return rattle_program("calls_of_ijson", "ijson_json ijson_string ijson_value", library_crates("ijson_json"))
 
 
 def canonical_of_ijson():
-    """Canonical and plain texts of the library. The library's crates must be built, as for `calls_of_ijson`."""
+    """Returns the program that times canonical and plain texts of the library. The crates must be built, as for `calls_of_ijson`."""
     return rattle_program("canonical_of_ijson", "ijson_extra ijson_json ijson_string ijson_value", library_crates("ijson_extra"))
 
 
 def calls_of_kit():
-    """Calls of the kit's own serde_json."""
+    """Returns the program that times calls of the kit's serde_json."""
     return rattle_program("calls_of_kit", "anyhow serde_json", {})
 
 
 def cargo_program(name, folder, title, kept, *flags):
-    """A program of a Rust crate over Debian's packages, kept under another name, since cargo's build of other features has the same."""
+    """Returns a program of a Rust crate over Debian's packages. It is kept as `kept`, since builds with other features
+    have the same name."""
     command = ["cargo", "build", "--quiet", "--release", "--offline", "--config", BENCH / "cargo.toml", "--target-dir", KEPT / "target", "--bin", name, *flags]
     if not built(command, folder, title):
         return None
@@ -112,24 +117,24 @@ def cargo_program(name, folder, title, kept, *flags):
 
 
 def rust_program(name, features="digits order"):
-    """A program over Rust's serde_json, which Debian's package librust-serde-json-dev has."""
+    """Returns a program over Rust's serde_json, which is in Debian's package librust-serde-json-dev."""
     title = f"Rust's serde_json ({name}, {features or 'no features'})"
     kept = "_".join([name, "of_rust", *features.split()])
     return cargo_program(name, BENCH / "baseline", title, kept, "--no-default-features", "--features", features)
 
 
 def rust_serde_json():
-    """Rust's serde_json: reads a text from standard input and writes it compactly."""
+    """Returns the program over Rust's serde_json that reads a text from standard input and writes it compactly."""
     return rust_program("baseline")
 
 
 def rust_calls():
-    """Calls of Rust's serde_json."""
+    """Returns the program that times calls of Rust's serde_json."""
     return rust_program("calls")
 
 
 def cpp_program(name, source, *flags):
-    """A program of passes_of_cpp/ over a library of C++, which a package of Debian has."""
+    """Returns a program of passes_of_cpp/ over a C++ library, which is in a package of Debian."""
     KEPT.mkdir(exist_ok=True)
     command = ["c++", "-std=c++17", "-O3", "-DNDEBUG", "-march=x86-64-v2", source, "-o", KEPT / name, *flags]
     return KEPT / name if built(command, BENCH / "passes_of_cpp", name) else None
@@ -140,12 +145,13 @@ def rapidjson(name, flags):
 
 
 def passes_of_ijson():
-    """Passes of the library. The library's crates must be built, as for `calls_of_ijson`."""
+    """Returns the program that times passes of the library. The crates must be built, as for `calls_of_ijson`."""
     return rattle_program("passes_of_ijson", "ijson_json ijson_string ijson_value", library_crates("ijson_json"))
 
 
 def libraries(ours):
-    """Programs that time passes within a process, by the names in the tables: this library, and the peers that could be built."""
+    """Returns the programs that time passes within a process, by their names in the tables: this library, and the peers
+    that can be built."""
     found = {
         ours: Library(passes_of_ijson(), True, "digits"),
         "serde_json exact": Library(rust_program("passes"), True, "digits"),
@@ -160,7 +166,7 @@ def libraries(ours):
 
 
 def package_versions():
-    """The versions of the peers' packages that are installed."""
+    """Returns the versions of the peers' packages that are installed."""
     if not shutil.which("dpkg-query"):
         return "No packages of Debian."
     done = subprocess.run(["dpkg-query", "--show", "--showformat", "${Package} ${Version}\n", *PACKAGES], capture_output=True, text=True)

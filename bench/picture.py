@@ -1,4 +1,4 @@
-"""A picture of the ratios of bench/in_process, in SVG: a panel per act, a line per file, and in it a mark per library."""
+"""Draws the ratios of bench/in_process as SVG: a panel per act, a line per file, and a mark per library in each line."""
 
 import math
 from html import escape
@@ -25,13 +25,13 @@ def line(x1, y1, x2, y2, colour):
 
 
 def mark(x, y, colour, is_full, words=""):
-    """Filled if order and digits are kept, else a ring."""
+    """Returns a mark, which is filled if order and digits are kept, and is a ring otherwise."""
     inside = colour if is_full else "none"
     return f'<circle cx="{x:.1f}" cy="{y:.1f}" r="5" fill="{inside}" stroke="{colour}" stroke-width="2"><title>{escape(words)}</title></circle>'
 
 
 class Scale:
-    """Powers of two around all ratios, on a logarithmic scale."""
+    """A logarithmic scale from the power of two below all ratios to the power of two above them."""
 
     def __init__(self, all_ratios):
         exponents = [math.log2(ratio) for ratio in all_ratios]
@@ -46,7 +46,7 @@ class Scale:
 
 
 def legend(libraries, colours):
-    """The first lines of the picture."""
+    """Returns the first lines of the picture."""
     parts = [text(LABELS, 20, "Time relative to ijson, minimum of all passes. Right of 1, ijson takes less.", "start", "bold")]
     parts.append(text(LABELS, 38, "Filled: order and digits are kept. Ring: not both are.", "start"))
     for number, (name, colour) in enumerate(colours.items()):
@@ -60,7 +60,7 @@ def is_exact(library):
 
 
 def panel(left, act, by_line, scale, libraries, colours):
-    """One act. `by_line` has the ratios by the line's name and then by the library."""
+    """Returns the panel of an act. `by_line` has the ratios by the name of the line and then by the library."""
     bottom = TOP + 24 + LINE * len(by_line)
     parts = [text(left + PANEL / 2, TOP + 4, act, weight="bold")]
     for ratio in scale.marks():
@@ -78,7 +78,7 @@ def panel(left, act, by_line, scale, libraries, colours):
 
 
 def picture(passes, libraries):
-    """The whole picture, from the minimum of the passes."""
+    """Returns the picture, from the minimum of the passes."""
     colours = dict(zip((name for name in libraries if name != OURS), COLOURS))
     acts = {}
     for act in PANELS:

@@ -1,8 +1,9 @@
 #!/usr/bin/env python3
 """same.py [--order] [--numbers digits|floats|texts] READ WRITTEN: ends with status 0 only if both files are JSON texts of one value.
 
-With --order the members have one order. Numbers are compared as the nearest floating point by default; by exact value (`digits`); as floating
-point that a reader may have rounded twice (`floats`); or the number that was read is now a string of its digits (`texts`).
+With --order, the entries of objects must have the same order. By default, numbers are compared as the nearest
+floating-point numbers. With `digits`, they are compared by exact value. With `floats`, a reader may have rounded them
+twice. With `texts`, a number of READ is a string of its digits in WRITTEN.
 """
 
 import argparse
@@ -11,19 +12,19 @@ import json
 import math
 import sys
 
-# How a reader parses numbers.
+# The parameters with which Python parses numbers, by the option.
 NUMBERS = {
     "nearest": {},
     "digits": {"parse_int": decimal.Decimal, "parse_float": decimal.Decimal},
     "floats": {},
     "texts": {"parse_int": str, "parse_float": str},
 }
-# Several steps of the last place of a double.
+# A relative difference of several steps in the last place of a double.
 NEAR = 1e-15
 
 
 def are_near(first, second):
-    """Whether the two differ at most in the last places of numbers."""
+    """Returns True if the two values differ at most in the last places of numbers."""
     if isinstance(first, float) and isinstance(second, (int, float)):
         return math.isclose(first, second, rel_tol=NEAR)
     if isinstance(first, dict) and isinstance(second, dict):
@@ -34,7 +35,7 @@ def are_near(first, second):
 
 
 def marked(value):
-    """The value with each truth value marked, since Python takes `True` for 1."""
+    """Returns the value with each Boolean marked, since True equals 1 in Python."""
     if isinstance(value, bool):
         return "truth value", value
     if isinstance(value, dict):

@@ -1,11 +1,11 @@
-"""The tables of bench/in_process."""
+"""Makes the tables of bench/in_process."""
 
 import statistics
 from operator import itemgetter
 
 from tables import OURS, head, marked, named, row
 
-# Figures from the times of a pass. Some programs do not time cloning.
+# The figures of the times of a pass, by act. Some programs do not time cloning.
 ACTS = {
     "reading": itemgetter(0),
     "writing": itemgetter(1),
@@ -17,7 +17,7 @@ FIGURES = {"min": min, "median": statistics.median}
 
 
 def times_of(act, by_library):
-    """The times of an act in each pass, by the library, of those that time it."""
+    """Returns the times of an act in each pass, by the library, for the libraries that time the act."""
     return {name: list(map(ACTS[act], it)) for name, it in by_library.items() if act != "cloning" or len(it[0]) > 3}
 
 
@@ -26,7 +26,10 @@ def shown_speed(size, nanoseconds, ours):
 
 
 def speed_table(act, passes, sizes, libraries):
-    """Megabytes of the input per second, by the minimum time and by the median. `passes` is by the file and then by the library."""
+    """Returns a table of megabytes of input per second, by the minimum and by the median time.
+
+    `passes` is by the file and then by the library.
+    """
     lines = [head(f"{act}, MB/s, {' / '.join(FIGURES)}", *libraries)]
     for file, by_library in passes.items():
         size, times = sizes[file], times_of(act, by_library)
@@ -36,7 +39,7 @@ def speed_table(act, passes, sizes, libraries):
 
 
 def ratios(passes, act, figure):
-    """Time relative to ours, by the file and then by the library."""
+    """Returns the time relative to ours, by the file and then by the library."""
     found = {}
     for file, by_library in passes.items():
         taken = {name: FIGURES[figure](it) for name, it in times_of(act, by_library).items()}
@@ -45,7 +48,7 @@ def ratios(passes, act, figure):
 
 
 def mean(file_ratios, name):
-    """The geometric mean over the files that the library reads, None if there is none."""
+    """Returns the geometric mean over the files that the library reads, or None if it reads none of them."""
     found = [by_library[name] for by_library in file_ratios.values() if name in by_library]
     return statistics.geometric_mean(found) if found else None
 
@@ -57,7 +60,7 @@ def shown_ratio(ratio):
 
 
 def mean_table(passes, libraries):
-    """The geometric means over the files, one row per library, with what the library keeps."""
+    """Returns a table of the geometric means over the files, with a row per library and the properties that the library keeps."""
     lines = [head("time relative to ijson, geometric mean", "order of members", "numbers", *ACTS)]
     by_act = {act: [ratios(passes, act, figure) for figure in FIGURES] for act in ACTS}
     for name, library in libraries.items():

@@ -1,4 +1,5 @@
-"""Tables of the benchmarks. A number in brackets is the ratio to ijson: above 1, ijson takes less. A figure is bold if ijson takes more."""
+"""Makes the tables of the benchmarks. A number in brackets is the ratio to ijson: above 1, ijson takes less. A figure
+is bold if ijson takes more."""
 
 import datetime
 import statistics
@@ -13,7 +14,7 @@ BEST = "best peer"
 
 
 def print_conditions(turns, passes=None):
-    """The first lines of a report: date, kit, machine, turns."""
+    """Prints the first lines of a report: date, kit, machine, turns."""
     with open("/proc/cpuinfo", encoding="utf-8") as lines:
         models = [line.partition(":")[2].strip() for line in lines if line.startswith("model name")]
     print(f"{datetime.date.today()}, {kit_version()}, {len(models)} processors {models[0]}, {turns} turns" + (f" of {passes} passes." if passes else "."))
@@ -29,7 +30,7 @@ def head(*cells):
 
 
 def marked(words, ratio):
-    """The words, bold if the ratio is below 1."""
+    """Returns the words, in bold if the ratio is below 1."""
     return f"**{words}**" if round(ratio, 2) < 1 else words
 
 
@@ -42,7 +43,7 @@ def shown(figure, value):
 
 
 def ratios(figures, peers):
-    """The figures of each other program, and of the best peer (for each figure by itself), divided by ours."""
+    """Returns the figures of each other program divided by ours, and those of the best peer for each figure."""
     others = {name: it for name, it in figures.items() if name != OURS}
     if peers:
         others[BEST] = {figure: min(figures[name][figure] for name in peers if name in figures) for figure in FIGURES}
@@ -60,13 +61,17 @@ def file_table(title, figures, file_ratios):
 
 
 def named(name, by_file):
-    """The name of a program, and how many of the files it reads if not all."""
+    """Returns the name of a program, and how many files it reads if it does not read all."""
     count = sum(name in it for it in by_file.values())
     return name if count == len(by_file) else f"{name} ({count} of {len(by_file)} files)"
 
 
 def ratio_table(all_ratios):
-    """The ratios against the best peer, one row per file, and the geometric means against each program. `all_ratios` is by the file's name."""
+    """Returns a table of the ratios to the best peer, with a row per file, and of the geometric means of the ratios to
+    each program.
+
+    `all_ratios` is by the name of the file.
+    """
     lines = [head(f"Against the {BEST}", *FIGURES)]
     for file, it in all_ratios.items():
         if BEST in it:
@@ -83,6 +88,6 @@ def growth_cell(figures, size):
 
 
 def growth_table(cells):
-    """`cells` by the file's name and then by the size."""
+    """Returns a table of `cells`, which are by the name of the file and then by the size."""
     lines = [head("Processor time, time per byte, memory", *next(iter(cells.values())))]
     return "\n".join(lines + [row(file, *it.values()) for file, it in cells.items()])

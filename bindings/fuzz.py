@@ -3,10 +3,11 @@
 
 usage: bindings/fuzz.py [--seconds N] [--order N] [FUNCTION..]
 
-A function that writes is called with an output of each length from 0 to the length that is needed, in a buffer with more bytes after it.
-Half of the texts are those of tests/fuzz after up to three random changes, half have random values. `tests/fuzz/answers.py` decides which
-are JSON. A pointer is a path into the value, a second text is the first in another spelling, and both may be changed as well. Prints for
-each function the inputs, the calls and how many inputs failed. The status is 0 if none failed.
+A function that writes is called with an output of each length from 0 to the necessary length, in a buffer with more
+bytes after it. Half of the texts are texts of tests/fuzz after up to three random changes; the others have random
+values. `tests/fuzz/answers.py` decides which texts are JSON. A pointer is a path into the value, and a second text is
+the first with another spelling; both may be changed too. Prints for each function the number of inputs, of calls, and
+of inputs that failed. The status is 0 if no input failed.
 """
 
 import sys
@@ -38,20 +39,20 @@ MASK = 2**64 - 1
 
 
 class Failed(Exception):
-    """A result that is not the expected one."""
+    """A result that differs from the expected result."""
 
 
-# ---- values: numbers keep their compact text
+# ---- values: numbers are represented by their compact text
 
 
 class Number(str):
-    """A number by its compact text."""
+    """A number, represented by its compact text."""
 
     __slots__ = ()
 
 
 def value_of(text, which=0):
-    """The value of a text and None, or None and the outcome of the error."""
+    """Returns the value of a text and None, or None and the outcome of the error."""
     out, err, status = answer(text)
     if status == 0:
         return json.loads(out, parse_int=Number, parse_float=Number), None
@@ -72,7 +73,7 @@ def written(value, number=str, order=list):
 
 
 def digits_of(number):
-    """The sign, the digits without trailing zeros and the exponent of a number; zero has no digits."""
+    """Returns the sign, the digits without trailing zeros and the exponent of a number; zero has no digits."""
     sign, digits, exponent = Decimal(number).as_tuple()
     stripped = "".join(map(str, digits)).lstrip("0").rstrip("0")
     return sign, stripped, exponent + len(digits) - len("".join(map(str, digits)).rstrip("0"))
@@ -100,7 +101,7 @@ def same(a, b):
 
 
 def merged(target, patch):
-    """RFC 7396, section 2."""
+    """Returns the target after a merge patch, by RFC 7396, section 2."""
     if not isinstance(patch, dict):
         return patch
     result = dict(target) if isinstance(target, dict) else {}
@@ -113,7 +114,7 @@ def merged(target, patch):
 
 
 def resolved(value, pointer):
-    """The value at a pointer (RFC 6901) and OK, or None and the status."""
+    """Returns the value at a pointer (RFC 6901) and OK, or None and the status."""
     try:
         text = pointer.decode("utf-8")
     except UnicodeDecodeError:
@@ -159,7 +160,7 @@ def words(value):
 
 
 def hashed(seed, value):
-    """The words, folded as std's FoldHasher does with writes of eight bytes."""
+    """Returns the hash of the seed and the words of a value, as std's FoldHasher computes it from writes of eight bytes."""
     state = 0x243F6A8885A308D3
     for word in [seed, *words(value)]:
         product = (state ^ word) * (0x9E3779B97F4A7C15 ^ 16)
@@ -183,7 +184,7 @@ def random_string(rng):
 
 
 def random_text(rng, depth=4):
-    """JSON text of a random value, with white space."""
+    """Returns a JSON text of a random value, with white space."""
     space = rng.choice(["", "", " ", "\n\t"])
     kind = rng.randrange(9 if depth else 5)
     if kind < 2:
@@ -199,7 +200,7 @@ def random_text(rng, depth=4):
 
 
 def changed(rng, text, most=3):
-    """The text after up to `most` changes, each a byte replaced, left out or inserted, or a cut."""
+    """Returns the text after up to `most` changes: a byte is replaced, removed or inserted, or the text is cut."""
     for _ in range(rng.randrange(most + 1)):
         at = rng.randrange(len(text) + 1)
         byte = bytes([rng.choice(LIKELY) if rng.randrange(2) else rng.randrange(256)])
@@ -208,7 +209,10 @@ def changed(rng, text, most=3):
 
 
 def input_of(rng, number):
-    """The texts of tests/fuzz first; then these after up to three changes, and random ones after up to one."""
+    """Returns the text number `number`: first the texts of tests/fuzz, then random or changed texts.
+
+    The texts of tests/fuzz get up to three changes, and random texts up to one.
+    """
     if number < len(TEXTS):
         return TEXTS[number]
     return changed(rng, random_text(rng).encode(), rng.choice([0, 0, 1])) if rng.randrange(2) else changed(rng, rng.choice(TEXTS))
@@ -221,7 +225,7 @@ def respelled_number(rng, number):
 
 
 def respelled(rng, value):
-    """A text of an equal value, or nearly so."""
+    """Returns a text of a value that is equal, or nearly equal."""
     text = written(value, lambda number: respelled_number(rng, number), lambda members: rng.sample(list(members), len(members)))
     if not rng.randrange(3):
         return changed(rng, text.encode(), 1)
@@ -233,7 +237,7 @@ def respelled(rng, value):
 
 
 def path_into(rng, value):
-    """A pointer to a part of a value, sometimes changed."""
+    """Returns a pointer to a part of a value, which is sometimes changed."""
     pointer = ""
     while isinstance(value, (dict, list)) and value and rng.randrange(5):
         key = rng.choice(list(value) if isinstance(value, dict) else range(len(value)))
@@ -244,7 +248,7 @@ def path_into(rng, value):
 
 
 def patch_of(rng, value):
-    """A patch with some members of the value changed, removed or new."""
+    """Returns a patch in which some entries of the value are changed, removed or new."""
     if not isinstance(value, dict) or not rng.randrange(4):
         return json.loads(answer(rng.choice(SEEDS))[0], parse_int=Number, parse_float=Number)
     patch = {key: rng.choice([None, Number("7"), patch_of(rng, item)]) for key, item in value.items() if rng.randrange(2)}
@@ -259,7 +263,10 @@ def arguments(texts):
 
 
 def call_writing(name, texts, wanted, outcome):
-    """Calls with outputs of each length, and returns how many. `wanted` are the bytes to be written, or None at an error."""
+    """Calls a function with outputs of each length, and returns the number of calls.
+
+    `wanted` has the bytes to be written, or None if an error is expected.
+    """
     call, length = getattr(LIBRARY, f"ijson_{name}"), ctypes.c_size_t()
     need = len(wanted) if wanted is not None else 0
     before = b"\xa5" * (need + AFTER)
@@ -294,14 +301,14 @@ def line(value, fault, write=written):
 
 
 def both(first, second):
-    """The values of two texts, and the outcome if one has none."""
+    """Returns the values of two texts and None, or the outcome if one of them has no value."""
     a, fault = value_of(first)
     b, second_fault = value_of(second, 1)
     return a, b, fault or second_fault
 
 
 def some_value(rng, text):
-    """The value of a text, or that of another one if it has none."""
+    """Returns the value of a text, or of another text if it has no value."""
     value, fault = value_of(text)
     return value_of(rng.choice(SEEDS))[0] if fault else value
 

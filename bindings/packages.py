@@ -1,4 +1,4 @@
-"""The library as packages: a prefix for C programs, packages for Debian, and a wheel for Python."""
+"""Packages the library: as files below a prefix for C programs, as packages for Debian, and as a wheel for Python."""
 
 import pathlib
 import re
@@ -33,16 +33,16 @@ Description: {summary}
 
 
 class Missing(Exception):
-    """A tool is missing."""
+    """Reports that a tool is missing."""
 
 
 def version():
-    """The version, by the header."""
+    """Returns the version that the header states."""
     return re.search(r'#define IJSON_VERSION "(.*)"', (BINDINGS / "c" / "ijson.h").read_text())[1]
 
 
 def install(prefix, root=None):
-    """Copies the header, the libraries and a file for pkg-config below a prefix, or below its copy in the folder `root`."""
+    """Copies the header, the libraries and a file for pkg-config below a prefix, or below the prefix in the folder `root`."""
     prefix = pathlib.Path(prefix).resolve()
     top = root / prefix.relative_to("/") if root else prefix
     include, libraries, config = top / "include", top / "lib", top / "lib" / "pkgconfig"
@@ -52,7 +52,7 @@ def install(prefix, root=None):
     shutil.copy(OUT / "libijson.a", libraries)
     real = f"libijson.so.{version()}"
     shutil.copy(OUT / "libijson.so", libraries / real)
-    # A program is linked by the name without a number, and loads the name with the first one.
+    # A program is linked by the name without a number, and at its start loads the name with the major version.
     for link in "libijson.so.0", "libijson.so":
         (libraries / link).unlink(missing_ok=True)
         (libraries / link).symlink_to(real)
@@ -60,7 +60,7 @@ def install(prefix, root=None):
 
 
 def debian():
-    """Makes two packages for Debian in out/, of the shared library and of what compiles programs with it, and returns their paths."""
+    """Makes two packages for Debian in out/: the shared library, and the files for compiling programs. Returns their paths."""
     if not shutil.which("dpkg-deb"):
         raise Missing("dpkg-deb is missing")
     with tempfile.TemporaryDirectory() as work:
@@ -76,7 +76,7 @@ def debian():
 
 
 def package(folder, section, depends, triggers=""):
-    """Makes a package for Debian of a folder with the package's name, which has the files below `usr`."""
+    """Makes a package for Debian from a folder that has the name of the package, and has files below `usr`."""
     control, licenses = folder / "DEBIAN", folder / "usr/share/doc" / folder.name
     control.mkdir()
     control.joinpath("control").write_text(
@@ -92,7 +92,7 @@ def package(folder, section, depends, triggers=""):
 
 
 def python_with_wheel():
-    """A Python that has setuptools and wheel: this one, or Debian's."""
+    """Returns a Python that has setuptools and wheel: the running Python, or Debian's."""
     for python in sys.executable, "/usr/bin/python3":
         if not subprocess.run([python, "-c", "import setuptools, wheel, pip"], capture_output=True).returncode:
             return python

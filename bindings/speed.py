@@ -1,10 +1,11 @@
 #!/usr/bin/env python3
-"""Times the functions from Python next to `json`, and `orjson` if it is installed, on a file of bench/generate.py.
+"""Times the functions from Python, compared with `json`, and with `orjson` if it is installed, on a file of bench/generate.py.
 
 usage: bindings/speed.py [--size BYTES] [--file NAME] [--turns N] [--keys N]
 
-Prints the minimum of some turns, in seconds of processor time. `json` and `orjson` round fractions. --keys times `equal` and `merge_patch`
-instead, on an object of N keys of one hash, as tests/fuzz/chosen-keys makes them, and on one of ordinary keys of the same length.
+Prints the minimum of some turns, in seconds of processor time. `json` and `orjson` round fractions. With --keys,
+`equal` and `merge_patch` are timed instead, on an object of N keys with the same hash, as tests/fuzz/chosen-keys
+generates them, and on an object of ordinary keys of the same length.
 """
 
 import sys
@@ -35,7 +36,7 @@ def sorted_by_json(text):
 
 
 def rows(text, other):
-    """What is timed: a name, and each way to do it."""
+    """Returns the calls to time: by name, and then by library."""
     compact = {"ijson": lambda: ijson_proved.compact(text), "json": lambda: compact_by_json(text)}
     canonical = {"ijson": lambda: ijson_proved.canonical(text), "json": lambda: sorted_by_json(text)}
     equal = {"ijson": lambda: ijson_proved.equal(text, other), "json": lambda: json.loads(text) == json.loads(other)}
@@ -51,7 +52,7 @@ def rows(text, other):
 
 
 def key_rows(count):
-    """Objects of chosen and of ordinary keys, compared and patched in the reverse order of members."""
+    """Yields calls on objects of chosen and of ordinary keys, which are compared and patched in the reverse order of keys."""
     loader = importlib.machinery.SourceFileLoader("chosen_keys", str(BINDINGS.parent / "tests" / "fuzz" / "chosen-keys"))
     chosen_keys = importlib.util.module_from_spec(importlib.util.spec_from_loader(loader.name, loader))
     loader.exec_module(chosen_keys)

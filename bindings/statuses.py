@@ -1,9 +1,9 @@
 #!/usr/bin/env python3
-"""Compares the statuses and the version of `ijson.h` with those of the proved crate, Python, Rust and their page.
+"""Compares the statuses and the version in `ijson.h` with those in the proved crate, Python, Rust and their page.
 
 usage: bindings/statuses.py
 
-Prints a line for each that differs, and then 'N M', how many hold and how many are amiss. The status is 0 if M is 0.
+Prints a line for each difference, and then 'N M': how many are equal and how many differ. The status is 0 if M is 0.
 """
 
 import pathlib
@@ -11,20 +11,21 @@ import re
 import sys
 
 BINDINGS = pathlib.Path(__file__).resolve().parent
-# The names of ijson_c and Rust that are not those of the header.
+# The names in ijson_c and Rust that differ from the names in the header.
 NAMES = {"DONE": "OK", "NOTHING_THERE": "NOTHING", "Syntax": "SYNTAX", "TooDeep": "TOO_DEEP", "NumberRange": "NUMBER_RANGE", "Memory": "MEMORY",
          "done": "OK", "not_utf8": "NOT_UTF8", "memory": "MEMORY", "too_short": "TOO_SHORT", "not_pointer": "NOT_POINTER",
          "nothing_there": "NOTHING"}
 
 
 def found(path, *patterns):
-    """The statuses by name that patterns find in a file; each has a name and a number."""
+    """Returns the statuses by name that patterns find in a file. Each pattern finds a name and a number."""
     text = (BINDINGS / path).read_text(encoding="utf-8")
     return {NAMES.get(name, name): int(number) for pattern in patterns for name, number in re.findall(pattern, text, re.MULTILINE)}
 
 
 def of_source():
-    """Those of the crate: its constants, its errors of the reader, and two that stand at their places."""
+    """Returns the statuses of the crate: of its constants, of errors of the reader, and of two outcomes that are
+    written out where they occur."""
     statuses = found("ijson_c/src/outcome.rt.txt", r"^pub\(crate\) const (\w+): Outcome = Outcome \{\s+status: (\d+),",
                      r"JsonError::(\w+)(?: \{ at \})? => \((\d+),")
     refused, = re.findall(r"_refused: AllocError\) -> Outcome \{\s+Outcome \{\s+status: (\d+),", (BINDINGS / "ijson_c/src/outcome.rt.txt").read_text())
@@ -33,7 +34,7 @@ def of_source():
 
 
 def statuses():
-    """The statuses by name, of each place."""
+    """Returns the statuses by name, for each place that states them."""
     return {
         "ijson_c/src": of_source(),
         "ijson_c/specs": found("ijson_c/specs/Outcomes.antt.txt", r"^(\w+)(?: which)? = record \{ status = (\d+);",

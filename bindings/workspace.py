@@ -3,8 +3,9 @@
 
 usage: bindings/workspace.py FOLDER
 
-The command adds `ijson_c`, without its must-fail edits, to a workspace that has the other crates. Its files have the suffix `.txt` in `ijson_c/`,
-since the gate wants every `.rt` and `.antt` file in a crate that crates.txt lists.
+The command adds `ijson_c`, without its must-fail edits, to a workspace that has the other crates. Its files in
+`ijson_c/` have the suffix `.txt`, since the gate requires that every `.rt` and `.antt` file is in a crate that
+crates.txt lists.
 """
 
 import contextlib
@@ -29,12 +30,12 @@ LISTED = f"{CRATE} staticlib: {' '.join(USES)}"
 
 
 def run(command, folder, **options):
-    """Runs a command, whose output is shown."""
+    """Runs a command, and shows its output."""
     subprocess.run(command, cwd=folder, check=True, **options)
 
 
 def write_crate(work):
-    """Writes the files of ijson_c into a workspace, and returns its folder."""
+    """Writes the files of ijson_c to a workspace, and returns the folder of the crate."""
     crate = work / "crates" / CRATE
     for path in sorted((BINDINGS / CRATE).rglob("*")):
         if path.is_file():
@@ -45,21 +46,21 @@ def write_crate(work):
 
 
 def assemble(work):
-    """Writes the workspace into a folder, and returns the folder of ijson_c."""
+    """Writes the workspace to a folder, and returns the folder of ijson_c."""
     copy_crates(work, library_crates(*USES), LISTED)
     return write_crate(work)
 
 
 def exported():
-    """The functions of `ijson.h`."""
+    """Returns the names of the functions in `ijson.h`."""
     return re.findall(r"^ijson_outcome (\w+)\(", (BINDINGS / "c" / "ijson.h").read_text(encoding="utf-8"), re.MULTILINE)
 
 
 def link(crate):
-    """Makes the static and the shared library in out/ of what `rt lib` left in the crate's folder.
+    """Makes the static and the shared library in out/ from the output of `rt lib` in the crate's folder.
 
-    The kit's liblibc_c.a has the three functions by which the library allocates. Only the functions of ijson.h are visible, so no name of the
-    library meets one of the program.
+    The kit's liblibc_c.a has the three functions by which the library allocates. Only the functions of ijson.h are
+    visible, so other names of the library cannot conflict with names of a program.
     """
     archives, names = [crate / "out" / f"lib{CRATE}.a", KIT / "c" / "liblibc_c.a"], exported()
     OUT.mkdir(exist_ok=True)
@@ -76,8 +77,8 @@ def link(crate):
 
 @contextlib.contextmanager
 def workspace(folder=None):
-    """The folder of ijson_c in a workspace: in a temporary folder, or in one that stays."""
-    # The crates below are proved in place, so that the next workspace finds them.
+    """Yields the folder of ijson_c in a workspace, in a temporary folder or in the folder `folder`, which is kept."""
+    # The crates that ijson_c uses are proved in place, so that the next workspace finds them proved.
     run(["rt", "lib"], TOP / "crates" / "ijson_extra")
     with tempfile.TemporaryDirectory() if folder is None else contextlib.nullcontext(folder) as work:
         yield assemble(pathlib.Path(work).resolve())

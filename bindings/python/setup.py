@@ -1,4 +1,4 @@
-"""The tag of the wheel: its library is for one kind of processor, and for any version of Python 3."""
+"""Sets the tag of the wheel: the library is for one kind of processor, and for any version of Python 3."""
 
 from setuptools import Distribution, setup
 from wheel.bdist_wheel import bdist_wheel

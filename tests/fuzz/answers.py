@@ -1,17 +1,22 @@
-"""The expected output of ijson-compact for any input, written from RFC 8259 and the project's stated rules, not from the library's code.
+"""Computes the expected output of ijson-compact for any input. It is written from RFC 8259 and the project's stated
+rules, not from the library's code.
 
-`answer(data)` returns the expected standard output, standard error and status if memory suffices and no device fails. The project's own rules:
+`answer(data)` returns the expected standard output, standard error and status if memory suffices and no device fails.
+The project's own rules:
 
-- The whole input must be UTF-8; this is tested first, and reported without a position. A byte order mark is rejected.
-- A surrogate escape is accepted only in a pair, a high one immediately followed by a low one.
-- At most 127 containers are open at once. The bracket that would open one more is rejected at its own byte.
-- A number that is not zero is rejected if its exponent, with its digits ending in no zero, is not from -2**30 to 2**30. It is rejected at its
-  first byte, once it ends, whatever follows.
-- An error in an escape is reported at its backslash: also an escape that the text cuts, and a high surrogate without a whole low one.
-- Any other error is reported at the first byte that no JSON text could have there, or at the length if the text ends too early.
-- The first error from the left is reported.
-- A repeated key replaces the value and keeps the position of the first.
-- Numbers are exact decimals with one written form each; one with a point or an exponent keeps a point or an exponent.
+- The input must be UTF-8; this is tested first, and reported without a position. A byte order mark is rejected.
+- A surrogate escape is accepted only in a pair: a high surrogate immediately followed by a low surrogate.
+- At most 127 containers are open at a time. A bracket that would open another is rejected at its own byte.
+- A number other than zero is rejected if the exponent of its digits without trailing zeros is not from -2**30 to 2**30.
+  It is rejected at its first byte, after its last byte is read, whatever follows.
+- An error in an escape is reported at its backslash. This includes an escape that is cut off by the end of the text,
+  and a high surrogate without a complete low surrogate.
+- Any other error is reported at the first byte that no JSON text can have there, or at the length if the text ends too
+  early.
+- The leftmost error is reported.
+- A duplicate key replaces the value and keeps the position of the first.
+- Numbers are exact decimals with one written form each. A number with a point or an exponent is written with a point or
+  an exponent.
 """
 
 import sys
@@ -28,7 +33,7 @@ sys.set_int_max_str_digits(0)  # a written exponent may have any number of digit
 
 
 class Refused(Exception):
-    """An error at a character of the text."""
+    """An error at a character of the text, by which the text is rejected."""
 
     def __init__(self, fault, at):
         super().__init__(fault, at)
@@ -36,7 +41,7 @@ class Refused(Exception):
 
 
 def answer(data):
-    """The expected standard output, standard error and status."""
+    """Returns the expected standard output, standard error and status."""
     try:
         text = data.decode("utf-8")
     except UnicodeDecodeError:
@@ -49,7 +54,7 @@ def answer(data):
 
 
 class Reader:
-    """Reads one text from the left and returns the compact text of each part when the part ends."""
+    """Reads a text from the left, and returns the compact text of each part at the end of the part."""
 
     def __init__(self, text):
         self.text = text
@@ -57,14 +62,14 @@ class Reader:
         self.open = 0
 
     def peek(self):
-        """The next character, or the empty text at the end."""
+        """Returns the next character, or the empty string at the end."""
         return self.text[self.at : self.at + 1]
 
     def refuse(self):
         raise Refused("syntax", self.at)
 
     def take(self, wanted):
-        """Steps over the next character, which must be one of those wanted."""
+        """Skips the next character, which must be in `wanted`, and returns it."""
         found = self.peek()
         if not found or found not in wanted:
             self.refuse()
@@ -101,7 +106,7 @@ class Reader:
         self.refuse()
 
     def enter(self):
-        """Steps over an opening bracket and the white space after it."""
+        """Skips an opening bracket and the white space after it."""
         if self.open == MOST_OPEN:
             raise Refused("nesting too deep", self.at)
         self.open += 1
@@ -149,7 +154,7 @@ class Reader:
         members[key] = self.element()
 
     def string(self):
-        """The characters that a string stands for."""
+        """Returns the characters that a string denotes."""
         self.take('"')
         characters = []
         while self.peek() != '"':
@@ -163,7 +168,7 @@ class Reader:
         return "".join(characters)
 
     def escape(self):
-        """The character of an escape, or of a pair of surrogate escapes; an error is reported at the first backslash."""
+        """Returns the character of an escape, or of a pair of surrogate escapes. An error is reported at the first backslash."""
         escape = self.text[self.at : self.at + 2]
         if escape[1:] in SIMPLE_ESCAPES:
             self.at += 2
@@ -181,7 +186,7 @@ class Reader:
         return chr(0x10000 + (unit - 0xD800) * 0x400 + (low - 0xDC00))
 
     def unit(self, at):
-        """The number of the whole escape of four hexadecimal digits that begins there, if one does."""
+        """Returns the number of the complete escape of four hexadecimal digits that begins at `at`, or None if there is no such escape."""
         escape = self.text[at : at + 6]
         if len(escape) < 6 or not escape.startswith("\\u") or any(digit not in HEXADECIMAL for digit in escape[2:]):
             return None
@@ -216,7 +221,7 @@ class Reader:
 
 
 def decimal(negative, digits, exponent, has_point):
-    """The text of the digits times ten to the power of the exponent, or None past the limit."""
+    """Returns the text of the digits times ten to the power of the exponent, or None if the exponent is past the limit."""
     digits = digits.lstrip("0")
     if not digits:
         return "0.0" if has_point else "0"
@@ -228,7 +233,7 @@ def decimal(negative, digits, exponent, has_point):
 
 
 def with_point(digits, exponent):
-    """The text, with a point or an exponent, of digits that neither begin nor end with a zero."""
+    """Returns the text, with a point or an exponent, of digits that neither begin nor end with a zero."""
     count = len(digits)
     point = count + exponent
     if point <= -6 or exponent > 20:
@@ -241,7 +246,7 @@ def with_point(digits, exponent):
 
 
 def quoted(characters):
-    """The string in the output."""
+    """Returns the string as it is written in the output."""
     return '"' + "".join(written(character) for character in characters) + '"'
 
 

@@ -1,4 +1,4 @@
-"""A program that is run anew for each input."""
+"""Runs a program in a new process for each input."""
 
 import os
 import signal
@@ -8,7 +8,7 @@ LONGEST_RUN = 10  # seconds
 
 
 class Program:
-    """Runs the program at a path, each time in a new process, for at most `LONGEST_RUN` seconds."""
+    """Runs the program at a path in a new process each time, for at most `LONGEST_RUN` seconds."""
 
     def __init__(self, path):
         self.path = path

@@ -1,4 +1,4 @@
-"""The texts that are changed, and texts with their stated results, which test the expected ones."""
+"""The texts that tests change, and texts with stated results, which test answers.py."""
 
 SEEDS = [
     b" [1.50, true, null, -0.0, false ]\n",
@@ -23,7 +23,7 @@ SEEDS = [
     b'[true,false,null,"true",[],{},""]',
 ]
 
-# Each text with what is written of it, or with the line that refuses it.
+# Each text with the text that is written for it, or with the error line that rejects it.
 STATED = [
     (b" [1.50, true ] ", "[1.5,true]"),
     (b"-0", "0"),

@@ -2,8 +2,8 @@
 
 usage: dedup_dask.py [--scheduler ADDRESS] [--workers N] [--block BYTES] FILE..
 
-Each machine reads its own blocks of the files, so they have to see them at the same paths, and needs ijson_proved. Without --scheduler, N
-processes of this machine are the cluster. A line that is not JSON ends the run.
+Each machine needs ijson_proved, and the files at the same paths, since it reads its own blocks of them. Without
+--scheduler, N processes of this machine are the cluster. A line that is not JSON ends the run.
 """
 
 import argparse
@@ -20,17 +20,17 @@ KEY = 32
 
 
 def lines_of(block):
-    """The lines of a block."""
+    """Returns the lines of a block."""
     return block.removesuffix(b"\n").split(b"\n") if block else []
 
 
 def keys(block):
-    """The keys of the lines of a block, one after the other: equal lines have equal keys."""
+    """Returns the concatenated keys of the lines of a block. Equal lines have equal keys."""
     return b"".join(hashlib.blake2b(ijson_proved.canonical(line).encode(), digest_size=KEY).digest() for line in lines_of(block))
 
 
 def firsts(keys_of_blocks):
-    """For each block, 1 for each line whose key no earlier line has, else 0."""
+    """Returns for each block a byte per line: 1 if no earlier line has the key of the line, else 0."""
     seen, found = set(), []
     for block in keys_of_blocks:
         each = [block[at : at + KEY] for at in range(0, len(block), KEY)]
@@ -39,12 +39,15 @@ def firsts(keys_of_blocks):
 
 
 def chosen(block, are_first):
-    """The lines of a block that are the first with their keys."""
+    """Returns the lines of a block that are the first lines with their keys."""
     return b"".join(line + b"\n" for line, is_first in zip(lines_of(block), are_first) if is_first)
 
 
 def first_lines(files, block_size):
-    """The first line of each set of equal lines, in the order of the files: a text for each block. Only keys meet on one machine."""
+    """Returns the first line of each set of equal lines, in the order of the files, as a text for each block.
+
+    Only the keys are collected on one machine.
+    """
     _, files = read_bytes(files, delimiter=b"\n", blocksize=block_size, sample=False)
     blocks = [block for file in files for block in file]
     are_first = dask.delayed(firsts, nout=len(blocks))([dask.delayed(keys)(block) for block in blocks])

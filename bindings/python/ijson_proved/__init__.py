@@ -28,7 +28,7 @@ from ijson_proved._errors import Error, NotJsonError, NotPointerError, NotUtf8Er
 
 __version__ = "0.2.0"
 
-# Without `hash`, so that `from ijson_proved import *` does not hide the function of Python.
+# `hash` is left out, so that `from ijson_proved import *` does not hide Python's function of this name.
 __all__ = ["Error", "NoValueError", "NotJsonError", "NotPointerError", "NotUtf8Error", "NumberRangeError", "Text", "TooDeepError", "canonical",
            "compact", "equal", "get", "merge_patch"]
 

@@ -1,4 +1,4 @@
-"""The functions."""
+"""The functions of the package."""
 
 from __future__ import annotations
 
@@ -13,16 +13,16 @@ from ijson_proved._library import LIBRARY, Outcome, Status
 
 Text = Union[str, bytes, bytearray, memoryview]
 
-# Strangers cannot make texts whose strings collide under a seed that they do not know.
+# The seed is random, so that nobody who does not know it can choose strings that collide.
 SEED = secrets.randbits(64)
-# From this size on, an output is of pages that the kernel clears when they are first used.
+# An output of at least this size, in bytes, has pages that the kernel clears when they are first used.
 MAPPED = 1 << 20
 FAULTS = {Status.NOT_UTF8: NotUtf8Error, Status.SYNTAX: NotJsonError, Status.TOO_DEEP: TooDeepError, Status.NUMBER_RANGE: NumberRangeError}
 POINTER_FAULTS = {Status.NOT_POINTER: NotPointerError, Status.NOTHING: NoValueError}
 
 
 def _bytes(text: Text) -> bytes:
-    """The bytes of a text, which do not change while another thread runs."""
+    """Returns the bytes of a text, which do not change while another thread runs."""
     if isinstance(text, str):
         return text.encode("utf-8", "surrogatepass")
     if isinstance(text, (bytes, bytearray, memoryview)):
@@ -31,7 +31,7 @@ def _bytes(text: Text) -> bytes:
 
 
 def _error(outcome: Outcome, texts: dict[str, bytes]) -> Exception:
-    """The exception for an outcome."""
+    """Returns the exception for an outcome."""
     try:
         status = Status(outcome.status)
     except ValueError:
@@ -53,10 +53,11 @@ def _error(outcome: Outcome, texts: dict[str, bytes]) -> Exception:
 
 
 def _done(name: str, texts: dict[str, bytes], *others: Any) -> bool:
-    """Calls a function on texts and its other arguments, and returns `False` if the output is too short.
+    """Calls a function with texts and its other arguments, and returns `False` if the output is too short.
 
     # Errors
-    The exception for the outcome.
+
+    Raises the exception for the outcome.
     """
     pieces = [piece for text in texts.values() for piece in (text, len(text))]
     outcome = getattr(LIBRARY, f"ijson_{name}")(SEED, *pieces, *others)
@@ -75,10 +76,10 @@ def _output(room: int) -> bytearray | mmap.mmap:
 
 
 def _written(name: str, **given: Text) -> str:
-    """The text that a function writes for the texts that its parameters name.
+    """Returns the text that a function writes for the given texts.
 
-    The first output has room for all texts together, which is enough unless a number is written with more digits. Otherwise the second output
-    has the length that the first call returned.
+    The first output has the length of all texts together, which suffices unless a number is written with more digits.
+    Otherwise the second output has the length that the first call returned.
     """
     texts = {argument: _bytes(text) for argument, text in given.items()}
     length = ctypes.c_size_t(sum(map(len, texts.values())) + 64)
@@ -90,17 +91,17 @@ def _written(name: str, **given: Text) -> str:
 
 
 def compact(text: Text) -> str:
-    """The text without white space. Members keep their order; of a key that repeats, the last value stays, at the first index."""
+    """Returns the text without white space. Entries keep their order; a duplicate key keeps its first index and its last value."""
     return _written("compact", text=text)
 
 
 def canonical(text: Text) -> str:
-    """The canonical text: two texts have the same one exactly if their values are equal."""
+    """Returns the canonical text. Two texts have the same canonical text exactly if their values are equal."""
     return _written("canonical", text=text)
 
 
 def get(text: Text, pointer: Text) -> str:
-    """The compact text of the value at a JSON Pointer (RFC 6901).
+    """Returns the compact text of the value at a JSON Pointer (RFC 6901).
 
     >>> get('{"a/b": null}', '/a~1b')
     'null'
@@ -117,12 +118,12 @@ def get(text: Text, pointer: Text) -> str:
 
 
 def merge_patch(target: Text, patch: Text) -> str:
-    """The compact text of `target` after a JSON Merge Patch (RFC 7396)."""
+    """Returns the compact text of `target` after a JSON Merge Patch (RFC 7396)."""
     return _written("merge_patch", target=target, patch=patch)
 
 
 def equal(first: Text, second: Text) -> bool:
-    """Whether two texts have equal values: numbers by value, objects in any order of members.
+    """Returns `True` if two texts have equal values: numbers by value, objects in any order of entries.
 
     >>> equal('0.1', '0.1000000000000000055511151231257827')
     False
@@ -133,7 +134,10 @@ def equal(first: Text, second: Text) -> bool:
 
 
 def hash(text: Text, seed: int | None = None) -> int:
-    """A hash of 64 bits, the same for texts of equal values and one seed. The default is a random seed of this process."""
+    """Returns a hash of 64 bits, which is the same for texts of equal values and the same seed.
+
+    The default is a random seed of this process.
+    """
     number = SEED if seed is None else operator.index(seed)
     if not 0 <= number < 1 << 64:
         raise ValueError("a seed is from 0 to 2^64 - 1")

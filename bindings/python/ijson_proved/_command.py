@@ -1,4 +1,4 @@
-"""The functions for files: arguments, files and statuses."""
+"""The functions for files, as a program: arguments, files and statuses."""
 
 from __future__ import annotations
 
@@ -51,7 +51,7 @@ def opened(name: str) -> contextlib.AbstractContextManager[BinaryIO]:
 
 @contextlib.contextmanager
 def progress(names: Iterable[str], shown: bool) -> Iterator[Callable[[int], object]]:
-    """A call that counts bytes: on a bar, if standard error is a terminal and tqdm is installed."""
+    """Yields a function that counts bytes: on a bar, if standard error is a terminal and tqdm is installed."""
     try:
         tqdm = importlib.import_module("tqdm").tqdm
     except ImportError:
@@ -65,7 +65,7 @@ def progress(names: Iterable[str], shown: bool) -> Iterator[Callable[[int], obje
 
 
 class Run:
-    """What a command has met so far: its status, and with `dedup` the digests of the lines written."""
+    """The state of a command: its status, and with `dedup` the digests of the lines written."""
 
     def __init__(self, options: argparse.Namespace) -> None:
         self.options, self.status = options, 0
@@ -76,7 +76,7 @@ class Run:
         self.status = (self.status or DIFFERENT) if isinstance(error, NoValueError) else NOT_JSON
 
     def job(self) -> Callable[[Any], bytes] | None:
-        """The job of the command, after a look at its pointer or patch. `None` if that is wrong, which is reported."""
+        """Returns the job of the command, after checking its pointer or patch. Reports an error in these and returns `None`."""
         options = self.options
         if options.command == "get":
             with contextlib.suppress(NoValueError):
@@ -95,7 +95,7 @@ class Run:
         return JOBS[options.command]
 
     def line_for(self, item: Any, answer: bytes) -> bytes:
-        """The line to write for the answer to a text."""
+        """Returns the line to write for the answer to a text."""
         if self.options.command == "dedup":
             if answer in self.seen:
                 return b""
@@ -106,7 +106,7 @@ class Run:
         return answer + b"\n"
 
     def take(self, names: list[str], first: int, items: list[Any], answers: list[Union[bytes, Error]]) -> None:
-        """Writes the lines for answers, and reports errors. `names` are the files of the texts, which begin at line `first`."""
+        """Writes the lines for answers, and reports errors. `names` are the files of the texts, which begin at the line `first`."""
         lines = []
         for number, (item, answer) in enumerate(zip(items, answers), first):
             if isinstance(answer, Error):
@@ -134,7 +134,7 @@ class Run:
         options, job = self.options, self.job()
         if job is None:
             return
-        # The texts of a call are of one file, or of two.
+        # The texts of a call are from one file, or from two.
         calls = [options.files] if options.command == "equal" else [[name] for name in options.files]
         with progress(options.files, options.lines) as count:
             for names in calls:
@@ -203,7 +203,7 @@ def main() -> int:
     except NotPointerError as error:
         arguments.error(f"{error}: {options.pointer}")
     except BrokenPipeError:
-        # Nobody reads on. Python would report the same at its end.
+        # The reader of the output has ended. Python would report that again when it exits.
         os.dup2(os.open(os.devnull, os.O_WRONLY), sys.stdout.fileno())
         return FILES
     except OSError as error:

@@ -1,11 +1,12 @@
-"""The errors, each with its place in the text at fault."""
+"""The errors, each with its position in the text at fault."""
 
 
 class Error(Exception):
-    """A call has no result.
+    """Reports that a call has no result.
 
-    `argument` is the name of the parameter at fault, and `text` its index, from 0. `offset` is the byte offset of the fault, from 0. `line`
-    and `column` are the position for an editor, from 1; a column counts characters. For a pointer they are its start.
+    `argument` is the name of the parameter at fault, and `text` its index, from 0. `offset` is the byte offset of the
+    fault, from 0. `line` and `column` are its position in an editor, from 1; a column counts characters. If a pointer
+    is at fault, they are the start of the pointer.
     """
 
     what = "no result"
@@ -20,25 +21,25 @@ class Error(Exception):
 
 
 class NotUtf8Error(Error, ValueError):
-    """The bytes are not UTF-8. The offset is that of the first wrong byte."""
+    """The bytes are not UTF-8. The offset is the offset of the first wrong byte."""
 
     what = "not UTF-8"
 
 
 class NotJsonError(Error, ValueError):
-    """The text is not JSON. The offset is that of the first byte that no JSON text could have there."""
+    """The text is not JSON. The offset is the offset of the first byte that no JSON text can have there."""
 
     what = "not JSON"
 
 
 class TooDeepError(Error, ValueError):
-    """Nesting deeper than 127. The offset is that of the opening bracket."""
+    """The nesting is deeper than 127. The offset is the offset of the opening bracket."""
 
     what = "nesting too deep"
 
 
 class NumberRangeError(Error, ValueError):
-    """An exponent outside -2^30 to 2^30. The offset is that of the number."""
+    """The exponent of a number is outside -2^30 to 2^30. The offset is the offset of the number."""
 
     what = "number out of range"
 

@@ -1,4 +1,4 @@
-"""The bytes to write for a text, by command. Other processes run these functions, so their module is not the one that is run."""
+"""Computes the bytes to write for a text, by command. Other processes run these functions, so they are in a module of their own."""
 
 import hashlib
 
@@ -30,5 +30,5 @@ def equal(pair: tuple[bytes, bytes]) -> bytes:
 
 
 def digest(text: bytes) -> bytes:
-    """32 bytes that differ for texts of different values, unless blake2b collides."""
+    """Returns 32 bytes that differ for texts of different values, unless blake2b collides."""
     return hashlib.blake2b(_calls.canonical(text).encode(), digest_size=32).digest()

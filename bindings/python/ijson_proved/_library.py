@@ -1,4 +1,4 @@
-"""The shared library: its functions as `ijson.h` has them."""
+"""The shared library, with the functions of `ijson.h`."""
 
 from __future__ import annotations
 
@@ -23,7 +23,7 @@ class Status(enum.IntEnum):
 
 
 class Outcome(ctypes.Structure):
-    """What a function returns."""
+    """The result of each function of the library."""
 
     _fields_ = [("status", ctypes.c_uint32), ("text", ctypes.c_uint32), ("offset", ctypes.c_size_t)]
     status: int
@@ -33,7 +33,7 @@ class Outcome(ctypes.Structure):
 
 _TEXT = [ctypes.c_char_p, ctypes.c_size_t]
 _OUTPUT = [ctypes.POINTER(ctypes.c_char), ctypes.c_size_t, ctypes.POINTER(ctypes.c_size_t)]
-# The parameters of each function after the seed.
+# The parameters of each function, after the seed.
 _PARAMETERS = {
     "compact": [*_TEXT, *_OUTPUT],
     "canonical": [*_TEXT, *_OUTPUT],
@@ -45,7 +45,7 @@ _PARAMETERS = {
 
 
 def path() -> str:
-    """The path of the library: in `IJSON_LIBRARY`, next to this file, or in `bindings/out` of the repository."""
+    """Returns the path of the library: from `IJSON_LIBRARY`, next to this file, or in `bindings/out` of the repository."""
     folder = pathlib.Path(__file__).resolve().parent
     places = [folder / "libijson.so", folder.parent.parent / "out" / "libijson.so"]
     return os.environ.get("IJSON_LIBRARY") or str(next((place for place in places if place.exists()), places[0]))

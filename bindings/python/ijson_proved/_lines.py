@@ -1,4 +1,4 @@
-"""Files with one JSON text a line: work on their lines in several processes, with the results in order."""
+"""Works on files with one JSON text per line: in several processes, with the results in the order of the lines."""
 
 from __future__ import annotations
 
@@ -14,18 +14,18 @@ from ijson_proved._errors import Error
 
 Item = TypeVar("Item")
 Result = TypeVar("Result")
-# The bytes of lines that a process gets at a time.
+# The size, in bytes, of the lines that a process gets at a time.
 CHUNK = 1 << 20
 
 
 def line_chunks(file: BinaryIO) -> Iterator[list[bytes]]:
-    """The lines of a file, without their line feeds."""
+    """Yields the lines of a file in chunks, without their line feeds."""
     while lines := file.readlines(CHUNK):
         yield [line.removesuffix(b"\n") for line in lines]
 
 
 def pair_chunks(first: BinaryIO, second: BinaryIO) -> Iterator[list[tuple[bytes, bytes]]]:
-    """The lines of two files side by side. Of the longer file, the others stand next to nothing."""
+    """Yields pairs of lines of two files, in chunks. If a file has fewer lines, its missing lines are empty."""
     pairs = itertools.zip_longest(first, second, fillvalue=b"")
     while chunk := list(itertools.islice(pairs, 1000)):
         yield [(a.removesuffix(b"\n"), b.removesuffix(b"\n")) for a, b in chunk]
@@ -42,17 +42,18 @@ def _answers(job: Callable[[Item], bytes], items: list[Item]) -> list[Union[byte
 
 
 def _ignore_interrupts() -> None:
-    """An interrupt of the terminal ends the first process, which then ends the others."""
+    """Ignores an interrupt of the terminal, since it ends the first process, which then ends the others."""
     signal.signal(signal.SIGINT, signal.SIG_IGN)
 
 
 def _results(processes: int, work: Callable[[Item], Result], items: Iterable[Item]) -> Iterator[tuple[Item, Result]]:
-    """Each item with its result, in order. Few items are read before the results of earlier ones are taken."""
+    """Yields each item with its result, in order. Few items are read before the results of earlier items are taken."""
     if processes == 1:
         for item in items:
             yield item, work(item)
         return
-    # A child that is forked from a process with threads may not call the library, so children come from a server without threads.
+    # A child that is forked from a process with threads must not call the library, so a server without threads starts
+    # the children.
     pool = ProcessPoolExecutor(processes, multiprocessing.get_context("forkserver"), _ignore_interrupts)
     pending: collections.deque[tuple[Item, Future[Result]]] = collections.deque()
     try:
@@ -68,5 +69,5 @@ def _results(processes: int, work: Callable[[Item], Result], items: Iterable[Ite
 
 
 def answered(processes: int, job: Callable[[Item], bytes], chunks: Iterable[list[Item]]) -> Iterator[tuple[list[Item], list[Union[bytes, Error]]]]:
-    """Each chunk with the answers to its items: the bytes that `job` returns, or its error."""
+    """Yields each chunk with the answers to its items: the bytes that `job` returns, or its error."""
     return _results(processes, functools.partial(_answers, job), chunks)

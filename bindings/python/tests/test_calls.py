@@ -1,4 +1,4 @@
-"""Tests of the functions: texts of each type, outputs of any size, errors with their places, and the library that is loaded."""
+"""Tests of the functions: texts of each type, outputs of any size, positions of errors, and the library that is loaded."""
 
 import copy
 import ctypes

@@ -1,4 +1,4 @@
-"""Tests of `python3 -m ijson_proved`: what each command writes, where it finds a text wrong, and its status."""
+"""Tests of `python3 -m ijson_proved`: the output and the status of each command, and the positions of errors."""
 
 import os
 import pathlib
@@ -18,7 +18,7 @@ FOLDER = pathlib.Path(ijson_proved.__file__).parent.parent
 ENVIRONMENT = {**os.environ, "PYTHONPATH": str(FOLDER)}
 LINES = b'[1.0, 2 ]\n{"b":1,"a":[]}\n[1 2]\n[1,2.0]\n{"a":[],"b":1e0}\n'
 
-# Stands for tqdm, and prints how many bytes were counted, of how many.
+# A replacement for tqdm, which prints how many bytes were counted, and of how many.
 BAR = b"""
 import contextlib, sys
 
@@ -35,7 +35,7 @@ class tqdm(contextlib.AbstractContextManager):
 
 
 def random_line(chance):
-    """A number, and a line of it in one of many spellings."""
+    """Returns a number, and a line with the number in one of many spellings."""
     number = chance.randrange(1, 3000)
     spelled = chance.choice([f"{number}", f"{number}.0", f"{number}e0", f"{number}0E-1"])
     return number, chance.choice(['{"a":%s,"b":[]}', '{ "b" : [ ] , "a" : %s }', '{"a":null,"b":[],"a":%s}']) % spelled
@@ -57,11 +57,11 @@ class Command(unittest.TestCase):
 
     def check(self, arguments, out, status=0, err=b"", stdin=b""):
         done = self.run_with(*arguments, stdin=stdin)
-        # Without the difference of two long outputs, which takes minutes.
+        # assertTrue, since assertEqual would compute the difference of two long outputs, which takes minutes.
         self.assertTrue(done.stdout == out, (done.stdout[:1000], out[:1000]))
         self.assertEqual((done.stderr, done.returncode), (err, status))
 
-    # ---- a text a file
+    # ---- one text per file
 
     def test_a_file_is_a_text(self):
         one, two = self.file("one", b'{"b": 2.0,\n "a": [10, 0.0]}'), self.file("two", b"[ ]\n")
@@ -119,7 +119,7 @@ class Command(unittest.TestCase):
             self.assertIn(status, done.stdout)
         self.check(["--version"], f"ijson_proved {ijson_proved.__version__}\n".encode())
 
-    # ---- a text a line
+    # ---- one text per line
 
     def test_a_line_is_a_text(self):
         lines, wrong = self.file("lines", LINES), b"lines:3:4: not JSON\n"
@@ -194,7 +194,8 @@ class Command(unittest.TestCase):
     def test_an_interrupt_ends_all_processes(self):
         command = subprocess.Popen([sys.executable, "-B", "-m", "ijson_proved", "compact", "--lines", "--jobs", "2"], cwd=self.folder, env=ENVIRONMENT,
                                    stdin=subprocess.PIPE, stdout=subprocess.PIPE, stderr=subprocess.PIPE, start_new_session=True)
-        # Five chunks, so the answers to the first one are written. The processes then wait, and so does the command, for the sixth.
+        # Five chunks are sent, so that the answers to the first are written. The processes then wait for the sixth
+        # chunk, and so does the command.
         line = b"[" + b"1, " * 10_000 + b"1]\n"
         feeder = threading.Thread(target=lambda: (command.stdin.write(line * 175), command.stdin.flush()))
         feeder.start()

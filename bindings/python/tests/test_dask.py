@@ -1,4 +1,4 @@
-"""The deduplication over dask against the one of a single process, byte for byte."""
+"""Compares the output of deduplication over dask with that of a single process, byte for byte."""
 
 import importlib.util
 import os
@@ -32,7 +32,7 @@ class Dask(unittest.TestCase):
                 for number, line in lines:
                     first.setdefault(number, f"{line}\n")
             single = self.run_with("-m", "ijson_proved", "dedup", "--lines", "--jobs", "1", *files)
-            # Some 25 blocks of both files.
+            # Both files have about 25 blocks.
             dask = self.run_with(FOLDER / "examples" / "dedup_dask.py", "--workers", "2", "--block", "20000", *files)
         self.assertEqual(single.decode(), "".join(first.values()))
         self.assertEqual(dask, single)

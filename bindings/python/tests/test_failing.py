@@ -1,4 +1,7 @@
-"""Each allocation of the library fails in turn. `bindings/check` sets IJSON_LIBRARY to a library with `fail_at` of c/failing.c."""
+"""Tests of the functions with each allocation of the library failing in turn.
+
+`bindings/check` sets IJSON_LIBRARY to a library with `fail_at` of c/failing.c.
+"""
 
 import ctypes
 import itertools
@@ -26,7 +29,7 @@ class Allocations(unittest.TestCase):
             for number in itertools.count(1):
                 fail_at.value = number
                 try:
-                    # A list that cannot be shrunk is kept as it is.
+                    # If a list cannot be shrunk, it is used with its spare capacity.
                     self.assertEqual(call(), want, name)
                 except MemoryError:
                     errors += 1

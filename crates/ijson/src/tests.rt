@@ -1,11 +1,11 @@
-//! Tests beyond the clauses, with a folder for each module of the library.
+//! Tests in addition to the contracts, with a folder for each module of the library.
 //!
-//! A test calls `drop` when it is done with a value, which is one step of the proof. At the end of a scope, the proof has a case for each
-//! kind of the value.
+//! Tests call `drop` on their values, since that is one step of a proof. For a value that is
+//! dropped at the end of a scope, the proof has a case for each kind of value.
 
-/// The result of a call, which is repeated if an allocation fails.
+/// Returns the `Ok` value of a call, which is repeated once if an allocation fails.
 ///
-/// The error for that is `AllocError`, or the one given.
+/// The error of a failed allocation is `AllocError`, or `$memory` if that is given.
 macro_rules! granted {
     ($rt:expr; $call:expr) => {
         match $call {
@@ -24,9 +24,9 @@ macro_rules! granted {
     };
 }
 
-/// The result of a call that makes a number of allocations, none without that number.
+/// Returns the result of a call that must make exactly `$count` allocations, 0 by default.
 ///
-/// `tests/alloc/modes` counts them.
+/// `tests/alloc/modes` counts the allocations.
 macro_rules! counted {
     ($alloc:expr; $call:expr) => {
         counted!($alloc; 0; $call)

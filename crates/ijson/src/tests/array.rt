@@ -1,6 +1,7 @@
-//! Arrays: the result and effect of each call, whichever allocation fails, and callers that know the list by contracts.
+//! Tests of arrays: the result and effect of each call, also if any of its allocations fails.
 //!
-//! Letters denote the elements.
+//! The module `letters` has a letter for each element. The contracts of two callers state the
+//! elements.
 ghost use Rattle.std.specs.Prelude.{◌≡◌, [], ◌∷◌, ◌++◌, true, OnOk};
 ghost use Rattle.ijson_value.specs.Values.{null_value, boolean_value};
 
@@ -15,12 +16,12 @@ use std::alloc::{AllocError, Global};
 use std::mem;
 use std::process::Abort;
 
-/// A call on an array, with the elements of its row if it needs any.
+/// A call on an array. A call that takes elements takes the elements of its row.
 #[derive(Clone, Copy)]
 enum Call {
     Push,
     Insert(usize),
-    /// Replaces an element by its index.
+    /// Replaces the element at this index.
     Write(usize),
     Remove(usize),
     SwapRemove(usize),
@@ -33,16 +34,18 @@ enum Call {
     Reserve(usize),
     ShrinkToFit,
     Extend,
-    /// The array is replaced by one of the elements, or by its copy.
+    /// Replaces the array by an array created from the elements, or by a copy (`FromSlice` and
+    /// `CloneOf`).
     FromIter,
     FromVec,
     FromSlice,
     CloneOf,
 }
 
-/// A state, a call, its elements, the element that it returns, and the state then.
+/// The state before a call, the call, its elements, the element that it returns, and the state
+/// after it.
 ///
-/// A call that keeps the capacity does not allocate.
+/// A call that keeps the capacity must not allocate.
 type Row = (State, Call, &'static str, &'static str, State);
 
 #[rattlefmt::skip]
@@ -76,7 +79,7 @@ static ROWS: [Row; 57] = [
     (("llll", 4), Truncate(3), "", "", ("lll", 4)), (("lll", 4), CloneOf, "", "", ("lll", 3)),
 ];
 
-/// Returns the array of these letters, of this capacity.
+/// Returns the array of the elements that `letters` denote, with the capacity `capacity`.
 fn spelled(rt: &impl Abort, alloc: Global, (letters, capacity): (&str, usize)) -> IArray {
     let mut array = granted!(rt; IArray::with_capacity(alloc, capacity));
     for letter in letters.bytes() {
@@ -86,7 +89,8 @@ fn spelled(rt: &impl Abort, alloc: Global, (letters, capacity): (&str, usize)) -
     array
 }
 
-/// Asserts the elements of an array, by each way to read them, and its capacity.
+/// Asserts that `array` has the elements of `letters`, by each call that reads them, and the
+/// capacity `capacity`.
 fn holds(rt: &impl Abort, array: &IArray, (letters, capacity): (&str, usize)) {
     let len = letters.len();
     assert!(*rt; array.len() == len && array.iter().len() == len && array.capacity() == capacity);
@@ -100,7 +104,7 @@ fn holds(rt: &impl Abort, array: &IArray, (letters, capacity): (&str, usize)) {
     }
 }
 
-/// Makes a call that cannot fail.
+/// Makes a call that cannot fail, and returns the removed element, if any.
 fn changed(array: &mut IArray, call: Call) -> Option<IValue> {
     match call {
         Remove(index) => return array.remove(index),
@@ -118,10 +122,10 @@ fn changed(array: &mut IArray, call: Call) -> Option<IValue> {
     None
 }
 
-/// The element that a call removes, or the element given if an allocation failed.
+/// The element that a call removes, or the element passed to the call if an allocation failed.
 type Answer = Result<Option<IValue>, Refused>;
 
-/// Makes a call once. Some calls drop the element given.
+/// Makes a call once. A call that takes no element drops `item`.
 fn called(rt: &impl Abort, alloc: Global, array: &mut IArray, call: Call, item: IValue) -> Answer {
     let is_done = match call {
         Push => return array.push(item).and(Ok(None)),
@@ -150,7 +154,9 @@ fn called(rt: &impl Abort, alloc: Global, array: &mut IArray, call: Call, item: 
     }
 }
 
-/// Makes a call, again if an allocation fails, which leaves the array as it was.
+/// Makes the call of `row`, and repeats it if an allocation fails.
+///
+/// A failed call must leave the array unchanged and return the element.
 fn made(rt: &impl Abort, alloc: Global, array: &mut IArray, row: Row, item: IValue) -> Option<u8> {
     let letter = letter_of(&item);
     letter_in(match called(rt, alloc, array, row.1, item) {
@@ -163,9 +169,10 @@ fn made(rt: &impl Abort, alloc: Global, array: &mut IArray, row: Row, item: IVal
     })
 }
 
-/// Extends an array by elements, which the last of these letters denote.
+/// Extends `array` by `items`. `letters` denote all elements of the extended array.
 ///
-/// If an allocation fails, the array is full of those before the element returned, and is extended by the others.
+/// After a failed call, the array must be full, and contain the elements before the returned
+/// element. The array is then extended by the remaining elements.
 fn extends(rt: &impl Abort, alloc: Global, array: &mut IArray, items: IArray, letters: &str) {
     if let Err(Refused(item)) = array.extend(items) {
         let len = array.len();
@@ -181,7 +188,9 @@ fn extends(rt: &impl Abort, alloc: Global, array: &mut IArray, items: IArray, le
     }
 }
 
-/// Returns the array of an iterator, for which the first, the fifth or the ninth element may be returned instead.
+/// Returns the array that `from_iter` creates from an iterator.
+///
+/// If an allocation fails, the call must return the first, fifth or ninth element, and is repeated.
 fn of_iterator(rt: &impl Abort, alloc: Global, letters: &str) -> IArray {
     match IArray::from_iter(alloc, spelled(rt, alloc, (letters, letters.len()))) {
         Ok(array) => array,
@@ -195,7 +204,9 @@ fn of_iterator(rt: &impl Abort, alloc: Global, letters: &str) -> IArray {
     }
 }
 
-/// Returns the array of a list, which a failed allocation returns.
+/// Returns the array that `from_vec` creates from a list.
+///
+/// If an allocation fails, the call must return the list, and is repeated with the list.
 fn of_list(rt: &impl Abort, alloc: Global, state: State) -> IArray {
     let list: Vec<IValue> = granted!(rt; spelled(rt, alloc, state).into_iter().collect(alloc));
     match counted!(alloc; 1; IArray::from_vec(alloc, list)) {
@@ -207,7 +218,7 @@ fn of_list(rt: &impl Abort, alloc: Global, state: State) -> IArray {
     }
 }
 
-/// Makes the call of a row.
+/// Makes the call of `row`, and asserts its result and the state after it.
 fn makes(rt: &impl Abort, alloc: Global, array: &mut IArray, row: Row) {
     let (before, call, given, returned, after) = row;
     let mut items = spelled(rt, alloc, (given, given.len()));
@@ -230,7 +241,9 @@ fn makes(rt: &impl Abort, alloc: Global, array: &mut IArray, row: Row) {
     }
 }
 
-/// Moves elements out of an array, which does not allocate, and returns the iterator over the others.
+/// Moves `count` elements out of `array`, and returns the iterator over the remaining elements.
+///
+/// Moving the elements out must not allocate.
 fn rest_of(rt: &impl Abort, alloc: Global, array: IArray, letters: &str, count: usize) -> IntoIter {
     begin_count(alloc);
     let mut items = array.into_iter();
@@ -243,7 +256,7 @@ fn rest_of(rt: &impl Abort, alloc: Global, array: IArray, letters: &str, count: 
     items
 }
 
-/// Compares an array with another one, and moves all elements out.
+/// Asserts that `array` equals a new array of the same elements, and moves all elements out.
 fn ends(rt: &impl Abort, alloc: Global, array: IArray, letters: &str) {
     let same = spelled(rt, alloc, (letters, letters.len()));
     are_same(rt, alloc, &array, &same);
@@ -251,7 +264,8 @@ fn ends(rt: &impl Abort, alloc: Global, array: IArray, letters: &str) {
     drop(rest_of(rt, alloc, array, letters, letters.len()));
 }
 
-/// A row whose state is not that of the array begins with another one.
+/// Makes the calls of all rows. A row whose first state is not the current state starts with a new
+/// array.
 #[test]
 fn calls(rt: HostRuntime) {
     let alloc = rt.alloc();
@@ -268,7 +282,8 @@ fn calls(rt: HostRuntime) {
     ends(&rt, alloc, array, state.0);
 }
 
-/// The elements of an array, how many are moved out, and the debug output of its iterator then.
+/// The elements of an array, how many are moved out, and the debug output of the iterator after
+/// that.
 static GIVEN: [(&str, usize, &str); 5] = [
     ("tnf", 0, "IntoIter([true, null, false])"),
     ("tnf", 1, "IntoIter([null, false])"),
@@ -288,7 +303,8 @@ fn iterators(rt: HostRuntime) {
     }
 }
 
-/// Returns `true` if an array has the numbers below `len`, and this capacity.
+/// Returns `true` if the elements of `array` are the numbers below `len`, and its capacity is
+/// `capacity`.
 fn counts(array: &IArray, len: usize, capacity: usize) -> bool {
     let mut numbers = array.iter().map(IValue::to_usize).enumerate();
     array.len() == len
@@ -296,7 +312,9 @@ fn counts(array: &IArray, len: usize, capacity: usize) -> bool {
         && numbers.all(|(index, number)| number == Some(index))
 }
 
-/// Pushes numbers onto those before them, each again if an allocation fails.
+/// Appends numbers to an array of the preceding numbers, until it has `count` elements.
+///
+/// A push is repeated if an allocation fails.
 fn pushes(rt: &impl Abort, array: &mut IArray, count: usize) {
     for number in array.len()..count {
         if let Err(Refused(item)) = array.push(IValue::from(number)) {
@@ -306,7 +324,7 @@ fn pushes(rt: &impl Abort, array: &mut IArray, count: usize) {
     }
 }
 
-/// Copies and shrinks an array of numbers.
+/// Copies and shrinks an array of the numbers below `len`.
 fn changes_size(rt: &impl Abort, array: &mut IArray, len: usize) {
     let copy = granted!(rt; array.clone());
     assert!(*rt; counts(&copy, len, len));
@@ -315,9 +333,9 @@ fn changes_size(rt: &impl Abort, array: &mut IArray, len: usize) {
     assert!(*rt; counts(array, len, len));
 }
 
-/// Returns an array that had each size below `most`.
+/// Calls `changes_size` for an array of each size below `most`, and returns the array.
 ///
-/// No clause says that a call succeeds if memory is available, so each small size is tried.
+/// No clause states that a call succeeds if memory is available, so each small size is tried.
 fn each_size(rt: &impl Abort, alloc: Global, most: usize) -> IArray {
     let mut array = IArray::new(alloc);
     for len in 0..most {
@@ -336,7 +354,7 @@ fn sizes(rt: HostRuntime) {
     drop(array);
 }
 
-/// Inserts, removes and writes elements, and knows the remaining ones.
+/// Inserts, removes and writes elements. The clause states the remaining elements.
 fn edited(rt: &impl Abort, alloc: Global, item: IValue) -> IArray
     ensures { result.items ≡ boolean_value true ∷ item ∷ [] }
 {
@@ -349,7 +367,7 @@ fn edited(rt: &impl Abort, alloc: Global, item: IValue) -> IArray
     array
 }
 
-/// Reserves capacity once, so that the pushes after it cannot fail.
+/// Appends three nulls. Capacity is reserved first, so that the pushes cannot fail.
 fn push_three(array: &mut IArray) -> Result<(), AllocError>
     ensures { OnOk result
         (array.new.items ≡ array.old.items ++ null_value ∷ null_value ∷ null_value ∷ []) }

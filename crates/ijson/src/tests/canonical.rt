@@ -1,4 +1,4 @@
-//! Canonical text.
+//! Tests of canonical JSON text.
 
 mod large;
 
@@ -11,9 +11,10 @@ use crate::value::IValue;
 use std::alloc::{AllocError, Global};
 use std::process::Abort;
 
-/// JSON texts and the canonical text of each.
+/// JSON texts, each with its canonical text.
 ///
-/// Keys are in byte order. `\u{10000}` is last, although it is first in UTF-16, and `"` is first, although it is not if both are escaped.
+/// Keys are sorted by their bytes. U+10000 is after U+FFFF, although UTF-16 has the reverse order.
+/// `"` is before `A`, although the escape `\"` is after `A`.
 #[rattlefmt::skip]
 static TEXTS: [(&str, &str); 12] = [
     (r#"{"b":2.0,"a":[10,0.0]}"#, r#"{"a":[1e1,0],"b":2e0}"#),
@@ -39,9 +40,10 @@ static TEXTS: [(&str, &str); 12] = [
       \"key:abcdefghé\":1e1,\"key:z\":7e0,\"key:é\":6e0}"),
 ];
 
-/// Texts that are written as they are read, and their canonical texts.
+/// JSON texts that are written as they are read, each with its canonical text.
 ///
-/// The second exceeds the initial capacity of a canonical text, and its second object the list of the first one.
+/// The second canonical text exceeds its initial capacity. Its second object has more entries than
+/// fit in the list that is reused from its first object.
 #[rattlefmt::skip]
 static KEPT: [(&str, &str); 2] = [
     (r#"{"b":{"d":2.0,"c":[10,0.0]},"a":"longlong"}"#, r#"{"a":"longlong","b":{"c":[1e1,0],"d":2e0}}"#),
@@ -51,7 +53,7 @@ static KEPT: [(&str, &str); 2] = [
       \"abcdefghijklmnopqrstuvwxyz0123456789ABCDEFGHIJKLMNOPQRSTUVWXYZ9876543210\"]"),
 ];
 
-/// Asserts the canonical text of a value.
+/// Asserts that the canonical text of `value` is `want`.
 fn is_canonical(rt: &impl Abort, alloc: Global, value: &IValue, want: &str) {
     let found = granted!(rt; canonical_json(alloc, value));
     assert!(*rt; found.as_str() == want, "{found} is not {want}");
@@ -75,7 +77,7 @@ fn texts(rt: HostRuntime) {
 
 type Text = Result<String, AllocError>;
 
-/// Returns `inner` between `count` times `front` and `count` times `behind`.
+/// Returns `count` copies of `front`, then `inner`, and then `count` copies of `behind`.
 fn nested(alloc: Global, front: &str, inner: &str, behind: &str, count: usize) -> Text {
     let front = front.repeat(alloc, count)?;
     let behind = behind.repeat(alloc, count)?;
@@ -96,7 +98,8 @@ fn arrays(rt: &impl Abort, alloc: Global, count: usize) -> IValue {
     value
 }
 
-/// 128 nested arrays are written but not read: the text is too deep at its 128th opening bracket.
+/// Checks that 128 nested arrays are written, and that reading their text fails at the 128th
+/// bracket.
 #[test]
 fn any_depth(rt: HostRuntime) {
     let alloc = rt.alloc();
@@ -114,7 +117,7 @@ fn any_depth(rt: HostRuntime) {
     assert!(rt; fault == Some(JsonError::TooDeep { at: 127 }));
 }
 
-/// Asserts the canonical text of nested objects of two members each, where these are swapped.
+/// Asserts that the canonical text of `count` nested objects swaps the two entries of each object.
 fn objects_are_sorted(rt: &impl Abort, alloc: Global, count: usize) {
     let text = granted!(rt; nested(alloc, "{\"b\":0,\"a\":", "null", "}", count));
     let want = granted!(rt; nested(alloc, "{\"a\":", "null", ",\"b\":0}", count));
@@ -123,14 +126,14 @@ fn objects_are_sorted(rt: &impl Abort, alloc: Global, count: usize) {
     drop(value);
 }
 
-/// The order of the members of a text.
+/// The order of the keys in a text.
 #[derive(Clone, Copy)]
 enum Keys {
     Rising,
     Falling,
 }
 
-/// Returns `count` members, whose keys have six digits.
+/// Returns the text of `count` entries, whose keys have six digits.
 fn members(alloc: Global, count: u32, keys: Keys) -> Text {
     let mut text = String::new(alloc);
     for n in 0..count {
@@ -146,9 +149,10 @@ fn members(alloc: Global, count: u32, keys: Keys) -> Text {
     Ok(text)
 }
 
-/// Returns a list of a string, zeros, an object and a number, with `behind` after the number.
+/// Returns the text of an array of a string, zeros, an object with `members`, and a number.
 ///
-/// There are `size` letters, elements and digits.
+/// The string has `size` letters, `size` zeros follow, and the number has `size` digits before
+/// `behind`.
 fn much(alloc: Global, size: usize, members: &String, behind: &str) -> Text {
     let letters = "a".repeat(alloc, size)?;
     let digits = "1".repeat(alloc, size)?;
@@ -156,7 +160,8 @@ fn much(alloc: Global, size: usize, members: &String, behind: &str) -> Text {
     format!(in alloc; "[\"{letters}\",{zeros}{{{members}}},{digits}{behind}]")
 }
 
-/// Asserts the canonical text of a long list, whose object has `count` members in falling order.
+/// Asserts the canonical text of a long array with an object, whose `count` entries are in
+/// descending order.
 fn much_is_sorted(rt: &impl Abort, alloc: Global, size: usize, count: u32) {
     let falling = granted!(rt; members(alloc, count, Keys::Falling));
     let rising = granted!(rt; members(alloc, count, Keys::Rising));

@@ -1,6 +1,6 @@
-//! Conversions from Rust values and to them.
+//! Tests of conversions from Rust values to values and back.
 
-/// The result of a conversion, which is repeated if an allocation fails.
+/// Returns the result of a conversion, which is repeated once if an allocation fails.
 macro_rules! settled {
     ($call:expr) => {
         match $call {
@@ -31,23 +31,25 @@ type Converted<T> = Result<T, ConvertError>;
 
 const THERE: &str = "a text that was there";
 
-/// Returns a cache that contains this one string.
+/// Returns a cache that contains only the string `THERE`.
 fn used_cache(rt: &impl Abort, alloc: Global) -> Cache {
     let mut cache = empty_cache(alloc);
     drop(interned(rt, &mut cache, THERE));
     cache
 }
 
-/// The strings of the tests that are interned, since they have more than seven bytes, and a part of each as it is written.
+/// The strings of more than 7 bytes in these tests, which are interned, each as it is written in
+/// JSON text.
 #[rattlefmt::skip]
 static LONG: [(&str, &str); 5] = [
     ("longlong", "longlong"), ("eight888", "eight888"), ("a text of many bytes", "a text of many bytes"),
     ("a key of many bytes", "a key of many bytes"), ("a \"text\" of many bytes", r#"a \"text\" of many bytes"#),
 ];
 
-/// Asserts that a cache contains its one string and the long strings of a text, and no others.
+/// Asserts that `cache` contains exactly `THERE` and the long strings that occur in `text`.
 ///
-/// No conversion removes a string from a cache, so a string that a failed call left there is counted too.
+/// No conversion removes a string from a cache, so a string that a failed call added is counted
+/// too.
 fn has_strings(rt: &impl Abort, cache: &Cache, text: &str) {
     let mut missing = cache.len();
     for &(string, written) in &LONG {
@@ -58,7 +60,7 @@ fn has_strings(rt: &impl Abort, cache: &Cache, text: &str) {
     assert!(*rt; cache.contains(THERE) && missing == 1, "{text}");
 }
 
-/// Asserts the text of the value of `x`, and the strings that it interns.
+/// Asserts that the value of `x` is written as `want`, and which strings its conversion interns.
 fn is_text<T: ToIValue>(rt: &impl Abort, alloc: Global, x: &T, want: &str) {
     let mut cache = used_cache(rt, alloc);
     let value = granted!(rt; ConvertError::Memory; to_value(alloc, &mut cache, x));
@@ -71,13 +73,13 @@ fn is_text<T: ToIValue>(rt: &impl Abort, alloc: Global, x: &T, want: &str) {
     drop(value);
 }
 
-/// The entries of two maps, in the order of insertion.
+/// Entries of two maps, in the order of insertion.
 static PUT: [(&str, u8); 2] = [("b", 1), ("a", 2)];
 
-/// The same with long keys.
+/// Entries of a map with long keys, in the order of insertion.
 static PUT_LONG: [(&str, [bool; 1]); 2] = [("longlong", [true]), ("eight888", [true])];
 
-/// Returns a map that sorts its keys.
+/// Returns a map of the entries `PUT`, which sorts them by their keys.
 fn sorted(alloc: Global) -> Result<BTreeMap<String, u8>, AllocError> {
     let mut map: BTreeMap<String, u8> = BTreeMap::new(alloc);
     for &(letters, n) in &PUT {
@@ -86,7 +88,7 @@ fn sorted(alloc: Global) -> Result<BTreeMap<String, u8>, AllocError> {
     Ok(map)
 }
 
-/// Returns a map that keeps the order of its keys.
+/// Returns a map of the entries `pairs`, which keeps their order.
 fn inserted<V: Copy + Drop>(
     alloc: Global,
     pairs: &[(&'static str, V)],
@@ -125,10 +127,10 @@ fn slices_tuples_and_texts_are_values(rt: HostRuntime) {
     is_text(&rt, alloc, &tuple, r#"["x",true,null,[1,2]]"#);
 }
 
-/// A value with strings that are in another cache.
+/// The JSON text of a value whose strings are interned in another cache.
 static PART: &str = r#"{"k":[1.5,"a text of many bytes",{"a key of many bytes":null}]}"#;
 
-/// Returns the value at a pointer.
+/// Returns the value at `pointer` in `value`.
 fn part<'a>(rt: &impl Abort, value: &'a IValue, pointer: &str) -> &'a IValue {
     value.pointer(pointer).expect(rt, pointer)
 }
@@ -155,7 +157,7 @@ fn values_and_their_parts_are_values(rt: HostRuntime) {
     drop(value);
 }
 
-/// A type that values are read as.
+/// A Rust type to which values are converted.
 #[derive(Clone, Copy)]
 enum Type {
     Truth,
@@ -171,7 +173,8 @@ const PAST: Converted<&str> = Err(ConvertError::OutOfRange);
 
 const WRONG_KIND: Converted<&str> = Err(ConvertError::WrongKind);
 
-/// Types; a text, and the text of its value read as the type and converted back, or the error.
+/// Types and JSON texts, each with the text after a conversion to the type and back, or with the
+/// error.
 #[rattlefmt::skip]
 static READ: [(Type, &str, Converted<&str>); 25] = [
     (Type::Truth, "true", Ok("true")), (Type::Truth, "false", Ok("false")), (Type::Truth, "0", WRONG_KIND),
@@ -189,7 +192,7 @@ static READ: [(Type, &str, Converted<&str>); 25] = [
     (Type::Lists, r#"{"b":[1,2.5],"a":[true]}"#, PAST), (Type::Lists, r#"{"a":[1,true],"b":[2.5]}"#, WRONG_KIND),
 ];
 
-/// Returns the value of a text read as a `T`, or the error.
+/// Converts the value of the JSON text `text` to a `T`.
 fn said<T: FromIValue + Drop>(rt: &impl Abort, alloc: Global, text: &str) -> Converted<T> {
     let value = parsed(rt, alloc, text);
     let said = settled!(from_value::<T>(alloc, &value));
@@ -197,7 +200,7 @@ fn said<T: FromIValue + Drop>(rt: &impl Abort, alloc: Global, text: &str) -> Con
     said
 }
 
-/// Asserts the text of the value of a text read as a `T`, or the error.
+/// Asserts the text after the value of `text` is converted to a `T` and back, or the error.
 fn is_read<T: FromIValue + ToIValue + Drop>(
     rt: &impl Abort,
     alloc: Global,
@@ -231,7 +234,9 @@ fn values_are_read_as_their_types(rt: HostRuntime) {
     }
 }
 
-/// Integers, and the number of bits of the smallest signed and unsigned type with each, 128 if none has it.
+/// Integers, each with the bits of the smallest signed and unsigned integer types that contain it.
+///
+/// The number of bits is 128 if no type of up to 64 bits contains the integer.
 #[rattlefmt::skip]
 static INTEGERS: [(&str, u8, u8); 26] = [
     ("-9223372036854775809", 128, 128), ("-9223372036854775808", 64, 128), ("-2147483649", 64, 128),
@@ -242,7 +247,8 @@ static INTEGERS: [(&str, u8, u8); 26] = [
     ("18446744073709551615", 128, 64), ("18446744073709551616", 128, 128),
 ];
 
-/// Asserts that an integer is read as a `T` exactly if the type has it, and that its value has the same text.
+/// Asserts that an integer converts to a `T` exactly if `fits` is set, and that the `T` has the
+/// same text.
 fn is_in<T: FromIValue + ToIValue + Drop>(rt: &impl Abort, alloc: Global, text: &str, fits: bool) {
     match said::<T>(rt, alloc, text) {
         Ok(x) => {
@@ -275,7 +281,9 @@ fn integers_are_in_range(rt: HostRuntime) {
 /// A nested option.
 type Twice = Option<Option<u8>>;
 
-/// What is read is compared here, not its text. Null read as a nested option is the outer `None`, not `Some(None)`.
+/// Compares the converted values themselves, instead of their text.
+///
+/// Null converts to the nested option `None`, and not to `Some(None)`.
 #[test]
 fn lists_and_options_are_read(rt: HostRuntime) {
     let alloc = rt.alloc();
@@ -290,10 +298,10 @@ fn lists_and_options_are_read(rt: HostRuntime) {
     drop(list);
 }
 
-/// The length of a map, and the value of `a`.
+/// The length of a map, and the value of its key `a`.
 type Found = (usize, Option<u8>);
 
-/// Reads a map, which has no order.
+/// Converts the value of `text` to a hash map, and returns its length and the value of its key `a`.
 fn said_of_a(rt: &impl Abort, alloc: Global, text: &str) -> Converted<Found> {
     let map = said::<HashMap<String, Option<u8>>>(rt, alloc, text)?;
     let found = (map.len(), map.get("a").copied().flatten());
@@ -301,7 +309,8 @@ fn said_of_a(rt: &impl Abort, alloc: Global, text: &str) -> Converted<Found> {
     Ok(found)
 }
 
-/// Texts, and for each the number of entries and the value of `a`, or why it is no map of small numbers.
+/// JSON texts, each with the length of its hash map and the value of the key `a`, or with the
+/// error.
 static HASHED: [(&str, Converted<Found>); 7] = [
     ("{}", Ok((0, None))),
     ("{\"b\":1,\"a\":2.0,\"a long key\":null}", Ok((3, Some(2)))),
@@ -323,7 +332,7 @@ fn hash_maps_are_read(rt: HostRuntime) {
     drop(map);
 }
 
-/// The string is shared with the value.
+/// Checks that converting a value to a string does not allocate, since the string is shared.
 #[test]
 fn strings_are_read_without_allocating(rt: HostRuntime) {
     let value = parsed(&rt, rt.alloc(), "\"a text of many bytes\"");
@@ -334,9 +343,9 @@ fn strings_are_read_without_allocating(rt: HostRuntime) {
     drop(text);
 }
 
-/// Asserts that the value of `x` is read as `x`, and returns the value.
+/// Converts `x` to a value and back, asserts that the result equals `x`, and returns the value.
 ///
-/// Converting it to `serde_json` and back must give an equal value.
+/// A conversion of the value to `serde_json` and back must return an equal value.
 fn goes_back<T: ToIValue + FromIValue + PartialEq + Drop>(
     rt: &impl Abort,
     alloc: Global,
@@ -373,7 +382,7 @@ fn items_go_back(rt: &impl Abort, alloc: Global, count: u32) {
     drop(items);
 }
 
-/// Returns the numbers below `count`, each with its digits as the key.
+/// Returns a map of the numbers below `count`, whose keys are their digits.
 fn numbered(alloc: Global, count: u32) -> Result<BTreeMap<String, u32>, AllocError> {
     let mut map: BTreeMap<String, u32> = BTreeMap::new(alloc);
     for n in 0..count {

@@ -1,4 +1,5 @@
-//! Reading and writing, devices, errors, and whole values, beyond the clauses.
+//! Tests of reading and writing JSON text, of devices and errors, and of the order, hashes and
+//! copies of values.
 
 mod devices;
 mod errors;
@@ -10,7 +11,8 @@ use crate::number::INumber;
 use std::alloc::{AllocError, Global};
 use std::process::Abort;
 
-/// A beginning, a part and its count, the text inside, a closing that has this count too, and an end.
+/// A text with repeated parts: `before`, `part` and its count, `inside`, `closing` with the same
+/// count, and `after`.
 type Parts = (
     &'static str,
     &'static str,
@@ -27,7 +29,7 @@ fn repeated(rt: &impl Abort, alloc: Global, parts: &Parts) -> String {
     granted!(rt; format!(in alloc; "{before}{opened}{inside}{closed}{after}"))
 }
 
-/// Appends a part to a text with spare capacity, with the number for each `#` in it.
+/// Appends `part` to `text`, which has spare capacity, with `number` in place of each `#`.
 fn push_numbered(rt: &impl Abort, text: &mut String, part: &str, number: u32) {
     for letter in part.chars() {
         let pushed = match letter {
@@ -38,7 +40,9 @@ fn push_numbered(rt: &impl Abort, text: &mut String, part: &str, number: u32) {
     }
 }
 
-/// Returns a part for each number from `first` to `last`, which replaces each `#`, between braces, by one allocation.
+/// Returns `part` for each number from `first` to `last`, separated by commas and between braces.
+///
+/// The number replaces each `#` in `part`. The text is allocated once.
 fn numbered(rt: &impl Abort, alloc: Global, part: &str, first: u32, last: u32) -> String {
     let mut text = granted!(rt; String::with_capacity(alloc, 1_000_000));
     text.push('{').expect(rt, "room");

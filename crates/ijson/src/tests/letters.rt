@@ -1,6 +1,7 @@
-//! Elements of arrays and values of objects, by their letters.
+//! Values of the tests of arrays and objects, each denoted by a letter.
 //!
-//! A letter denotes a value: `n` null, `t` true, `f` false, a digit its number, `p` 2.0, and `l` an array of one null, which owns memory.
+//! The letters are `n` for null, `t` for true, `f` for false, a digit for its number, `p` for 2.0,
+//! and `l` for an array of one null, which owns memory.
 
 use crate::array::IArray;
 use crate::number::{INumber, ParseNumberError};
@@ -8,10 +9,10 @@ use crate::value::IValue;
 use std::alloc::{AllocError, Global};
 use std::process::Abort;
 
-/// The content of an array or object, by its letters, and its capacity.
+/// The letters of the contents of an array or object, and its capacity.
 pub type State = (&'static str, usize);
 
-/// Returns the value of a letter.
+/// Returns the value that `letter` denotes, or null for an unknown letter.
 pub fn value_of(rt: &impl Abort, alloc: Global, letter: u8) -> IValue {
     match letter {
         b't' => IValue::TRUE,
@@ -29,7 +30,7 @@ pub fn value_of(rt: &impl Abort, alloc: Global, letter: u8) -> IValue {
     }
 }
 
-/// Returns the letter of a value, or `?` if it has none.
+/// Returns the letter that denotes `value`, or `?` if no letter does.
 pub fn letter_of(value: &IValue) -> u8 {
     match (value.to_usize(), value.to_bool(), value.as_array()) {
         (Some(2), ..) if value.as_number().is_some_and(INumber::has_decimal_point) => b'p',
@@ -42,7 +43,7 @@ pub fn letter_of(value: &IValue) -> u8 {
     }
 }
 
-/// Returns the letter of a removed value.
+/// Returns the letter of `value`, if there is a value, and drops the value.
 pub fn letter_in(value: Option<IValue>) -> Option<u8> {
     let letter = value.as_ref().map(letter_of);
     drop(value);

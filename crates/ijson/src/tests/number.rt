@@ -1,6 +1,7 @@
-//! Tests of numbers beyond the clauses.
+//! Tests of numbers, by tables of facts.
 //!
-//! A row of a table is a text and a fact of its number. `is_known` checks the fact of the number and of a copy.
+//! A row of a table has a decimal text and a fact of its number. `is_known` checks the fact of the
+//! number and of a copy.
 
 mod errors;
 mod facts;
@@ -15,40 +16,44 @@ use std::alloc::{AllocError, Global};
 use std::cmp::Ordering;
 use std::process::Abort;
 
-/// A fact of the number that a text spells.
+/// A fact of the number that a decimal text denotes.
 #[derive(Clone, Copy)]
 enum Fact<'a> {
-    /// It is written as this text.
+    /// The number is written as this text.
     Text(&'a str),
-    /// It is written as the text that spells it.
+    /// The number is written as the text of its row.
     Same,
-    /// Its canonical significand, and its exponent.
+    /// The canonical significand of the number, and its exponent.
     Stripped(&'a str, i32),
-    /// The mantissa and the exponent of its representation.
+    /// The mantissa and the exponent of the number's representation, which is `Form::Packed`.
     Packed(i64, i8),
-    /// The integer that is its representation, as for `U64`.
+    /// The integer of the number's representation, which is `Form::I64`.
     I64(i64),
+    /// The integer of the number's representation, which is `Form::U64`.
     U64(u64),
-    /// Its canonical significand, whose digits are its representation, and its exponent.
+    /// The digits and the exponent of the number's representation, which is `Form::Digits`. The
+    /// digits are those of the canonical significand.
     List(&'a str, i32),
-    /// The debug output of its representation.
+    /// The debug output of the number's representation.
     Shown(&'a str),
-    /// Its value.
+    /// The integer that the number equals.
     Integer(i128),
-    /// No integer type has its value.
+    /// No integer type contains the number.
     NoInteger,
-    /// The words that it feeds a hasher.
+    /// The words that the number feeds a hasher.
     Words(&'a [u64]),
 }
 
-/// Parses a number.
+/// Returns the number that the decimal text `text` denotes.
 fn spelled(rt: &impl Abort, alloc: Global, text: &str) -> INumber {
     granted!(rt; ParseNumberError::Memory; INumber::from_str(alloc, text))
 }
 
-/// Appends the text of a number to one without spare capacity, or its significand if its exponent is wanted.
+/// Asserts that appending the text of `number` to a string without spare capacity appends `want`.
 ///
-/// Returns `false` if an allocation failed. Then a proper prefix was appended.
+/// If `power` is given, the significand is appended, and the exponent must be `power`.
+///
+/// Returns `false` if an allocation failed. Only a proper prefix of `want` was then appended.
 fn push(rt: &impl Abort, alloc: Global, number: &INumber, power: Option<i32>, want: &str) -> bool {
     let mut text = granted!(rt; String::with_capacity(alloc, 4));
     text.push_str("true").expect(rt, "room");
@@ -65,14 +70,14 @@ fn push(rt: &impl Abort, alloc: Global, number: &INumber, power: Option<i32>, wa
     true
 }
 
-/// Asserts what is appended, again if an allocation fails.
+/// Calls `push`, and repeats the call if an allocation fails.
 fn adds(rt: &impl Abort, alloc: Global, number: &INumber, power: Option<i32>, want: &str) {
     if !push(rt, alloc, number, power, want) {
         assert!(*rt; push(rt, alloc, number, power, want), "{want}");
     }
 }
 
-/// Asserts the text of a number by each call that writes it. The text is exact, so a width adds nothing.
+/// Asserts that each call that writes `number` writes `want`. A width must not change the output.
 fn is_written(rt: &impl Abort, alloc: Global, number: &INumber, want: &str) {
     adds(rt, alloc, number, None, want);
     let text = granted!(rt; format!(in alloc; "{number}{number:>10}{number:?}{number:<10?}"));
@@ -83,7 +88,9 @@ fn is_written(rt: &impl Abort, alloc: Global, number: &INumber, want: &str) {
     assert!(*rt; rest.is_empty(), "{want}");
 }
 
-/// Asserts the representation of a number in a word, which is parsed and copied without an allocation.
+/// Asserts that `number` has the representation `form`, which is inline.
+///
+/// Parsing `text` and copying the number must not allocate.
 fn is_word(rt: &impl Abort, alloc: Global, number: &INumber, text: &str, form: Form<'_>) {
     assert!(*rt; counted!(alloc; number.form()) == form, "{text}");
     let again = counted!(alloc; INumber::from_str(alloc, text)).expect(rt, text);
@@ -93,20 +100,22 @@ fn is_word(rt: &impl Abort, alloc: Global, number: &INumber, text: &str, form: F
     drop(copy);
 }
 
-/// Returns `true` if a text writes these digits.
+/// Returns `true` if `text` consists of the digits `digits`.
 fn are_digits(digits: &[u8], text: &str) -> bool {
     let mut pairs = digits.iter().zip(text.bytes());
     digits.len() == text.len() && pairs.all(|(digit, byte)| byte.checked_sub(b'0') == Some(*digit))
 }
 
-/// Returns `true` if the representation of a number is a list of these digits.
+/// Returns `true` if the representation of `number` is a list of the digits `want`, with the
+/// exponent `power`.
 fn is_list(number: &INumber, text: &str, want: &str, power: i32) -> bool {
     matches!(number.form(), Form::Digits { negative, digits, exponent, point }
         if negative == text.starts_with("-") && are_digits(digits, want)
             && exponent == power && point == has_point(text))
 }
 
-/// Asserts the value of a number in each integer type, of which an `i128` has all values.
+/// Asserts that `number` converts to `want` in each integer type that contains it, and to `None` in
+/// the other types.
 fn is_integer(rt: &impl Abort, number: &INumber, want: Option<i128>) {
     assert!(*rt; number.to_i64() == in_type(want));
     assert!(*rt; number.to_i32() == in_type(want));
@@ -116,12 +125,12 @@ fn is_integer(rt: &impl Abort, number: &INumber, want: Option<i128>) {
     assert!(*rt; number.to_usize() == in_type(want));
 }
 
-/// Returns `true` if a text that spells a number has a decimal point or an exponent.
+/// Returns `true` if the decimal text `text` has a decimal point or an exponent.
 fn has_point(text: &str) -> bool {
     text.bytes().any(|byte| matches!(byte, b'.' | b'e' | b'E'))
 }
 
-/// Asserts a fact of a number that is spelled so.
+/// Asserts `fact` of `number`, which the decimal text `text` denotes.
 fn holds(rt: &impl Abort, alloc: Global, number: &INumber, text: &str, fact: Fact<'_>) {
     let point = counted!(alloc; number.has_decimal_point());
     assert!(*rt; point == has_point(text), "{text}");
@@ -151,14 +160,14 @@ fn holds(rt: &impl Abort, alloc: Global, number: &INumber, text: &str, fact: Fac
     }
 }
 
-/// Asserts facts of a number that is spelled so.
+/// Asserts each of `facts` of `number`, which the decimal text `text` denotes.
 fn all_hold(rt: &impl Abort, alloc: Global, number: &INumber, text: &str, facts: &[Fact<'_>]) {
     for &fact in facts {
         holds(rt, alloc, number, text, fact);
     }
 }
 
-/// Asserts facts of the number that a text spells, and of a copy that outlives it.
+/// Asserts `facts` of the number that `text` denotes, and of a copy that outlives the number.
 fn is_known(rt: &impl Abort, alloc: Global, text: &str, facts: &[Fact<'_>]) {
     let number = spelled(rt, alloc, text);
     all_hold(rt, alloc, &number, text, facts);

@@ -1,6 +1,6 @@
-//! Objects: the result and effect of each call, whichever allocation fails.
+//! Tests of objects: the result and effect of each call, also if any of its allocations fails.
 //!
-//! Two letters denote an entry: its key, by its name, and its value, as an element of an array.
+//! Two letters denote an entry: the letter of its key, and the letter of its value as in `letters`.
 
 mod callers;
 mod created;
@@ -19,12 +19,12 @@ use std::alloc::{AllocError, Global};
 use std::mem;
 use std::process::Abort;
 
-/// The names of short keys, which begin with their letters.
+/// The names of short keys. The letter of a key is the first character of its name.
 static SHORT: [&str; 16] = [
     "?", "a", "b", "c", "d", "e", "f", "k", "n", "x", "0", "1", "2", "3", "4", "5",
 ];
 
-/// The names of the keys `A` to `K`. All but the last two own memory.
+/// The names of the keys with the letters `A` to `K`. All but the last two own memory.
 static LONG: [&str; 11] = [
     "the_first_of_the_two",
     "the_other_of_the_two",
@@ -39,7 +39,7 @@ static LONG: [&str; 11] = [
     "no",
 ];
 
-/// A call on an object, with the entry of its row if it needs one.
+/// A call on an object. A call that takes an entry takes the entry of its row.
 #[derive(Clone, Copy)]
 enum Call {
     Insert,
@@ -48,46 +48,52 @@ enum Call {
     RemoveEntry,
     ShiftRemove,
     ShiftRemoveEntry,
-    /// Replaces the key of this letter, unless it is missing or the new one exists.
+    /// Replaces the key of this letter, unless that key is missing or the new key exists.
     ReplaceKey(u8),
-    /// Writes the value of an existing key, and returns the old one.
+    /// Writes the value of an existing key, and returns the old value.
     GetMut,
     GetKeyValueMut,
     IndexMut,
     ValueAtMut(usize),
-    /// Retains the entries of all other keys.
+    /// Retains all entries except the entry with the key of the row.
     RetainOthers,
     Clear,
     Reserve(usize),
     ShrinkToFit,
     Extend,
     Overlay,
-    /// The object is replaced by its copy.
+    /// Replaces the object by its copy.
     CloneOf,
-    /// Writes the value of an existing or new key, and returns the old one or null, also through a value in two ways.
+    /// Writes the value of an existing or new key, and returns the old value, or null if the key is
+    /// new.
+    ///
+    /// `IndexContent` and `IndexValue` do this through an `IValue`, by two ways to call the method.
     IndexOrInsert,
     IndexContent,
     IndexValue,
-    /// Returns the value that the key has then.
+    /// Inserts the entry if its key is missing, and returns the value of the key.
     OrInsert,
     OrInsertWith,
-    /// Writes 5 to an existing key, or inserts the value.
+    /// Sets the value of an existing key to 5, or inserts the entry. Returns the value of the key.
     AndModify,
-    /// Fills a vacant `Entry`, and returns the value of an occupied one.
+    /// Fills a vacant `Entry`, or returns the value of an occupied `Entry`.
     Enter,
-    /// Removes an occupied `Entry` with its key, or takes the key of a vacant one.
+    /// Removes an occupied `Entry` with its key and returns its value, or takes the key out of a
+    /// vacant `Entry`.
     TakeEntry,
     EntryRemove,
     DropEntry,
     DropCopy,
-    /// Writes 7, 8 and the value to an occupied `Entry`, which returns 8, and removes it or not.
+    /// Writes 7, 8 and the value of the row to an occupied `Entry`, and returns the replaced 8.
+    ///
+    /// `WriteRemove` then removes the `Entry`.
     Write,
     WriteRemove,
 }
 
-/// A state, a call, its entry, the value that it returns, and the state then.
+/// The state before a call, the call, its entry, the value that it returns, and the state after it.
 ///
-/// A call that keeps the capacity does not allocate.
+/// A call that keeps the capacity must not allocate.
 type Row = (State, Call, &'static str, &'static str, State);
 
 #[rattlefmt::skip]
@@ -155,7 +161,7 @@ static ROWS: [Row; 108] = [
     (("AlBl", 4), OrInsert, "Al", "l", ("AlBl", 4)), (("AlBl", 4), EntryRemove, "B", "l", ("Al", 4)),
 ];
 
-/// Returns the name of a key.
+/// Returns the name of the key with this letter, or `?` for an unknown letter.
 fn name_of(letter: u8) -> &'static str {
     if let b'A'..=b'K' = letter {
         return LONG[usize::from(letter - b'A')];
@@ -168,7 +174,9 @@ fn name_of(letter: u8) -> &'static str {
     "?"
 }
 
-/// Returns the name of the key and the letter of the value of an entry, `?` and `n` if there is none.
+/// Returns the name of the key and the letter of the value of the entry at `index`.
+///
+/// A missing entry has the name `?` and the letter `n`.
 fn pair_at(letters: &str, index: usize) -> (&'static str, u8) {
     let first = index.wrapping_mul(2);
     let letters = letters.as_bytes();
@@ -177,16 +185,16 @@ fn pair_at(letters: &str, index: usize) -> (&'static str, u8) {
     (name_of(name.unwrap_or(b'?')), letter.unwrap_or(b'n'))
 }
 
-/// An entry.
+/// An entry of an object.
 type Pair = (IString, IValue);
 
-/// Returns an entry by its index.
+/// Returns the entry at `index` of the entries that `letters` denote.
 fn pair_of(rt: &impl Abort, alloc: Global, letters: &str, index: usize) -> Pair {
     let (name, letter) = pair_at(letters, index);
     (key(rt, alloc, name), value_of(rt, alloc, letter))
 }
 
-/// Returns an object of these entries, of this capacity.
+/// Returns an object with the entries that `letters` denote, and the capacity `capacity`.
 fn spelled(rt: &impl Abort, alloc: Global, (letters, capacity): (&str, usize)) -> IObject {
     let mut object = granted!(rt; ReserveError::Memory; IObject::with_capacity(alloc, capacity));
     for index in 0..letters.len() / 2 {
@@ -196,12 +204,13 @@ fn spelled(rt: &impl Abort, alloc: Global, (letters, capacity): (&str, usize)) -
     object
 }
 
-/// Returns `true` if this is an entry with this name and letter.
+/// Returns `true` if `pair` is an entry with the key `name` and the value of `letter`.
 fn is_pair(pair: Option<(&IString, &IValue)>, name: &str, letter: u8) -> bool {
     matches!(pair, Some((key, value)) if key.eq_str(name) && letter_of(value) == letter)
 }
 
-/// Asserts an entry at its index, by each way to find it.
+/// Asserts that each call that finds an entry finds the key `name` at `index`, with the value of
+/// `letter`.
 fn has_pair(rt: &impl Abort, object: &IObject, index: usize, name: &str, letter: u8) {
     assert!(*rt; object.get_index_of(name) == Some(index) && object.contains_key(name));
     assert!(*rt; letter_of(&object[name]) == letter);
@@ -210,7 +219,8 @@ fn has_pair(rt: &impl Abort, object: &IObject, index: usize, name: &str, letter:
     assert!(*rt; is_pair(object.get_key_value(&name), name, letter));
 }
 
-/// Asserts the first `len` of these entries of an object, which has no others, and its capacity.
+/// Asserts that `object` has exactly the first `len` entries of `letters`, and the capacity
+/// `capacity`.
 fn holds_first(rt: &impl Abort, object: &IObject, len: usize, (letters, capacity): (&str, usize)) {
     assert!(*rt; object.len() == len && object.capacity() == capacity);
     assert!(*rt; object.is_empty() == (len == 0));
@@ -230,15 +240,16 @@ fn holds_first(rt: &impl Abort, object: &IObject, len: usize, (letters, capacity
     assert!(*rt; object.get("?").is_none() && object.get_key_value("?").is_none());
 }
 
-/// Asserts the entries of an object, by each way to read them, and its capacity.
+/// Asserts that `object` has exactly the entries and the capacity of `state`, by each call that
+/// reads them.
 fn holds(rt: &impl Abort, object: &IObject, state: (&str, usize)) {
     holds_first(rt, object, state.0.len() / 2, state);
 }
 
-/// The letter of a value.
+/// The letter of the value that a call returns, if any.
 type Reply = Option<u8>;
 
-/// Returns the letter of the value of a removed entry, which has this key.
+/// Asserts that the removed entry `pair` has the key `name`, and returns the letter of its value.
 fn removed(rt: &impl Abort, pair: Option<Pair>, name: &str) -> Reply {
     let (key, value) = pair?;
     assert!(*rt; key.eq_str(name));
@@ -246,7 +257,7 @@ fn removed(rt: &impl Abort, pair: Option<Pair>, name: &str) -> Reply {
     letter_in(Some(value))
 }
 
-/// Writes to a value, and returns the letter of the old one.
+/// Replaces the value in `place`, if any, and returns the letter of the old value.
 fn written(place: Option<&mut IValue>, value: IValue) -> Reply {
     match place {
         Some(place) => letter_in(Some(mem::replace(place, value))),
@@ -257,7 +268,7 @@ fn written(place: Option<&mut IValue>, value: IValue) -> Reply {
     }
 }
 
-/// Replaces a key, and returns the first letter of the reason for which it is not replaced.
+/// Replaces the key `old` by `new`. Returns `m` if `old` is missing, and `e` if `new` exists.
 fn replaced(rt: &impl Abort, object: &mut IObject, [old, name]: [&str; 2], new: IString) -> Reply {
     let (why, key, returned) = match object.replace_key(old, new) {
         Ok(key) => (None, key, old),
@@ -269,7 +280,7 @@ fn replaced(rt: &impl Abort, object: &mut IObject, [old, name]: [&str; 2], new: 
     why
 }
 
-/// Makes a call that cannot fail.
+/// Makes the call of `row`, which cannot fail, and returns its reply.
 fn changed(rt: &impl Abort, object: &mut IObject, row: Row, key: &IString, value: IValue) -> Reply {
     let (name, _) = pair_at(row.2, 0);
     match row.1 {
@@ -296,14 +307,14 @@ fn changed(rt: &impl Abort, object: &mut IObject, row: Row, key: &IString, value
     None
 }
 
-/// The reply, or the entry given if an allocation failed.
+/// The reply of a call, or the entry passed to the call if an allocation failed.
 type Answer = Result<Reply, RefusedPair>;
 
 fn back((key, value): Pair, why: ReserveError) -> RefusedPair {
     RefusedPair { key, value, why }
 }
 
-/// Writes the value of a key of an object inside a value.
+/// Moves `object` into a value, writes the value of a key through it, and moves the object back.
 fn put_in(rt: &impl Abort, alloc: Global, object: &mut IObject, row: Row, pair: Pair) -> Answer {
     let mut outer = IValue::from(mem::replace(object, IObject::new(alloc)));
     assert!(*rt; outer.is_object());
@@ -331,7 +342,8 @@ fn seven(place: &mut IValue) {
     set(place, IValue::from(7u8));
 }
 
-/// Writes 8 and the value to an `Entry` that has 7, and may remove it.
+/// Writes 8 and then `value` to an occupied `Entry` with the value 7. `WriteRemove` also removes
+/// it.
 fn overwritten(rt: &impl Abort, entry: Entry<'_>, call: Call, value: IValue) -> Reply {
     match entry {
         Entry::Occupied(mut entry) => {
@@ -379,7 +391,8 @@ fn opened(rt: &impl Abort, entry: Entry<'_>, call: Call, name: &str, value: IVal
     }
 }
 
-/// Makes a call of an `Entry`. A closure is called if its result is needed.
+/// Makes the call of `row` on `entry`, and asserts that a closure is called only if its result is
+/// needed.
 fn entered(rt: &impl Abort, entry: Entry<'_>, row: Row, value: IValue, is_present: bool) -> Reply {
     let (name, _) = pair_at(row.2, 0);
     assert!(*rt; entry.key().eq_str(name));
@@ -411,7 +424,9 @@ fn entered(rt: &impl Abort, entry: Entry<'_>, row: Row, value: IValue, is_presen
     Some(letter)
 }
 
-/// Makes a call of the `Entry` of a key, which some calls copy if it is missing, or a call that cannot fail.
+/// Makes the call of `row` on the `Entry` of a key, or a call that cannot fail.
+///
+/// Some calls on an `Entry` copy the key if it is missing.
 fn by_key(rt: &impl Abort, object: &mut IObject, row: Row, (key, value): Pair) -> Answer {
     let is_present = object.contains_key(&key);
     let reply = match row.1 {
@@ -431,13 +446,13 @@ fn by_key(rt: &impl Abort, object: &mut IObject, row: Row, (key, value): Pair) -
     Ok(reply)
 }
 
-/// Returns `false` if an allocation failed. There is no other reason.
+/// Returns `false` if an allocation failed, and asserts that `answer` has no other error.
 fn is_granted(rt: &impl Abort, answer: Result<(), ReserveError>) -> bool {
     assert!(*rt; answer == Ok(()) || answer == Err(ReserveError::Memory));
     answer.is_ok()
 }
 
-/// Makes a call once. Some calls drop the entry that they are given.
+/// Makes the call of `row` once. A call that takes no entry drops `pair`.
 fn called(rt: &impl Abort, alloc: Global, object: &mut IObject, row: Row, pair: Pair) -> Answer {
     let is_done = match row.1 {
         Insert => return Ok(letter_in(object.insert(pair.0, pair.1)?)),
@@ -466,14 +481,16 @@ fn called(rt: &impl Abort, alloc: Global, object: &mut IObject, row: Row, pair: 
     }
 }
 
-/// Asserts that a failed allocation returned an entry.
+/// Asserts that `refused` returns the entry at `index` because an allocation failed.
 fn is_back(rt: &impl Abort, refused: &RefusedPair, letters: &str, index: usize) {
     let (name, letter) = pair_at(letters, index);
     assert!(*rt; refused.why == ReserveError::Memory);
     assert!(*rt; refused.key.eq_str(name) && letter_of(&refused.value) == letter);
 }
 
-/// Makes a call, again if an allocation fails, which leaves the object as it was and returns the entry.
+/// Makes the call of `row`, and repeats it if an allocation fails.
+///
+/// A failed call must leave the object unchanged and return the entry.
 fn made(rt: &impl Abort, alloc: Global, object: &mut IObject, row: Row, pair: Pair) -> Reply {
     match called(rt, alloc, object, row, pair) {
         Ok(letter) => letter,
@@ -486,7 +503,7 @@ fn made(rt: &impl Abort, alloc: Global, object: &mut IObject, row: Row, pair: Pa
     }
 }
 
-/// Adds entries to an object.
+/// Adds the entries of `pairs` to `object`, by `overlay` or `extend`.
 fn added(object: &mut IObject, call: Call, pairs: IObject) -> Result<(), RefusedPair> {
     match call {
         Overlay => object.overlay(pairs),
@@ -494,7 +511,9 @@ fn added(object: &mut IObject, call: Call, pairs: IObject) -> Result<(), Refused
     }
 }
 
-/// Adds entries to an object, again if an allocation fails: then the object is full of those before the entry returned.
+/// Adds the entries of `pairs` to `object`, and repeats the call if an allocation fails.
+///
+/// After a failed call, the object must be full, and contain the entries before the returned entry.
 fn adds(rt: &impl Abort, alloc: Global, object: &mut IObject, row: Row, pairs: IObject) {
     if let Err(refused) = added(object, row.1, pairs) {
         let len = object.len();
@@ -506,7 +525,7 @@ fn adds(rt: &impl Abort, alloc: Global, object: &mut IObject, row: Row, pairs: I
     }
 }
 
-/// Makes the call of a row.
+/// Makes the call of `row`, and asserts its reply and the state after it.
 fn makes(rt: &impl Abort, alloc: Global, object: &mut IObject, row: Row) {
     let adds_pairs = matches!(row.1, Extend | Overlay);
     let added = if adds_pairs { row.2 } else { "" };
@@ -529,7 +548,9 @@ fn makes(rt: &impl Abort, alloc: Global, object: &mut IObject, row: Row) {
     }
 }
 
-/// Compares an object with another one, and moves all entries out, which does not allocate.
+/// Asserts that `object` equals a new object of the same entries, and moves all entries out.
+///
+/// Moving the entries out must not allocate.
 fn ends(rt: &impl Abort, alloc: Global, object: IObject, letters: &str) {
     let same = spelled(rt, alloc, (letters, letters.len() / 2));
     are_same(rt, alloc, &object, &same);
@@ -547,7 +568,8 @@ fn ends(rt: &impl Abort, alloc: Global, object: IObject, letters: &str) {
     end_count(alloc, 0);
 }
 
-/// A row whose state is not that of the object begins with another one.
+/// Makes the calls of all rows. A row whose first state is not the current state starts with a new
+/// object.
 #[test]
 fn calls(rt: HostRuntime) {
     let alloc = rt.alloc();

@@ -1,4 +1,4 @@
-//! JSON Pointer: values that are read, written, and missing.
+//! Tests of JSON Pointer: values that are read, written or missing.
 
 mod lent;
 
@@ -9,14 +9,15 @@ use crate::value::{Destructured, DestructuredMut, DestructuredRef, IValue};
 use std::alloc::{AllocError, Global};
 use std::process::Abort;
 
-/// A text whose values are read or written.
+/// A JSON text whose values are read or written.
 const TEXT: &str = r#"{"foo":["bar","baz"],"":0,"a/b":1,"m~n":8,"~1":9}"#;
 
 const DEEP: &str = r#"[[[0,{"a":[1,[2]]}]],3]"#;
 
 const NULLS: &str = r#"{"a":null,"m~/n":[null]}"#;
 
-/// Texts and pointers; the text of the value there, and the text after true is written there.
+/// JSON texts and pointers, each with the value at the pointer and the text after true is written
+/// there.
 #[rattlefmt::skip]
 static PLACES: [(&str, &str, &str, &str); 10] = [
     (TEXT, "", TEXT, "true"), (TEXT, "/foo", r#"["bar","baz"]"#, r#"{"foo":true,"":0,"a/b":1,"m~n":8,"~1":9}"#),
@@ -29,7 +30,7 @@ static PLACES: [(&str, &str, &str, &str); 10] = [
     (NULLS, "/a", "null", r#"{"a":true,"m~/n":[null]}"#), (NULLS, "/m~0~1n/0", "null", r#"{"a":null,"m~/n":[true]}"#),
 ];
 
-/// Asserts the text of the value at a pointer.
+/// Asserts that the value at `pointer` is written as `want`, and that finding it does not allocate.
 fn is_at(rt: &impl Abort, alloc: Global, value: &IValue, pointer: &str, want: &str) {
     let found = counted!(alloc; resolve(value, pointer)).expect(rt, pointer);
     is_written(rt, alloc, found.expect(rt, pointer), want);
@@ -37,7 +38,7 @@ fn is_at(rt: &impl Abort, alloc: Global, value: &IValue, pointer: &str, want: &s
     is_written(rt, alloc, found.expect(rt, pointer), want);
 }
 
-/// Writes true at a pointer, or returns why there is no value.
+/// Writes true at `pointer`, or returns the reason if there is no value.
 fn put_true(value: &mut IValue, pointer: &str) -> Option<Unresolved> {
     match resolve_mut(value, pointer) {
         Ok(Some(found)) => {
@@ -49,7 +50,7 @@ fn put_true(value: &mut IValue, pointer: &str) -> Option<Unresolved> {
     }
 }
 
-/// Like `put_true`, through the content of the value.
+/// Like `put_true`, but writes to the content of the value.
 fn put_true_opened(value: &mut IValue, pointer: &str) -> Option<Unresolved> {
     match resolve_opened_mut(value, pointer) {
         Ok(found) => {
@@ -60,7 +61,8 @@ fn put_true_opened(value: &mut IValue, pointer: &str) -> Option<Unresolved> {
     }
 }
 
-/// Like `put_true`, by the method of the value, which does not tell why there is none.
+/// Like `put_true`, but by `pointer_mut`, which reports no reason. Returns `true` if a value is
+/// found.
 fn put_true_pointed(value: &mut IValue, pointer: &str) -> bool {
     match value.pointer_mut(pointer) {
         Some(found) => {
@@ -71,7 +73,7 @@ fn put_true_pointed(value: &mut IValue, pointer: &str) -> bool {
     }
 }
 
-/// The calls that lend the value at a pointer.
+/// The calls that return a mutable reference to the value at a pointer.
 #[derive(Clone, Copy)]
 enum Way {
     Value,
@@ -81,7 +83,8 @@ enum Way {
 
 static WAYS: [Way; 3] = [Way::Value, Way::Opened, Way::Method];
 
-/// Writes true at a pointer. Returns `true` if `why` is the reason against it, if any.
+/// Writes true at `pointer`. Returns `true` if the call reports `why`, or succeeds if `why` is
+/// `None`.
 fn puts_true(value: &mut IValue, pointer: &str, why: Option<Unresolved>, way: Way) -> bool {
     match way {
         Way::Value => put_true(value, pointer) == why,
@@ -90,7 +93,7 @@ fn puts_true(value: &mut IValue, pointer: &str, why: Option<Unresolved>, way: Wa
     }
 }
 
-/// One value changes, and nothing else.
+/// Checks that writing at a pointer changes only the value there.
 #[test]
 fn values_are_read_and_written(rt: HostRuntime) {
     let alloc = rt.alloc();
@@ -106,16 +109,16 @@ fn values_are_read_and_written(rt: HostRuntime) {
     }
 }
 
-/// Pointers to no value in `TEXT`.
+/// Pointers that refer to no value in `TEXT`.
 #[rattlefmt::skip]
 static NOTHING: [&str; 9] = [
     "/foo/2", "/foo/-", "/foo/01", "/foo/99999999999999999999", "/foo/0/x", "/foo/+1", "/foo/", "/nope", "/nope/nope",
 ];
 
-/// Texts that are not pointers.
+/// Strings that are not JSON Pointers.
 static NO_POINTERS: [&str; 6] = ["foo", "/~", "/~2", "/nope/~2", "/foo/0/~", "~0"];
 
-/// Asserts that there is no value at a pointer, for this reason.
+/// Asserts that each call finds no value at `pointer` in `value`, for the reason `why`.
 fn is_missing(rt: &impl Abort, alloc: Global, value: &mut IValue, pointer: &str, why: Unresolved) {
     let refused = match counted!(alloc; resolve(value, pointer)) {
         Ok(found) => found.is_none() && why == Unresolved::Nothing,
@@ -144,18 +147,18 @@ fn values_are_missing(rt: HostRuntime) {
     drop(value);
 }
 
-/// The text of RFC 6901, section 5.
+/// The JSON text of RFC 6901, section 5.
 const RFC: &str =
     r#"{"foo":["bar","baz"],"":0,"a/b":1,"c%d":2,"e^f":3,"g|h":4,"i\\j":5,"k\"l":6," ":7,"m~n":8}"#;
 
-/// Pointers, and the text of the value of each in `RFC`.
+/// Pointers, each with the JSON text of its value in `RFC`.
 #[rattlefmt::skip]
 static NAMED: [(&str, &str); 12] = [
     ("", RFC), ("/foo", r#"["bar","baz"]"#), ("/foo/0", r#""bar""#), ("/", "0"), ("/a~1b", "1"), ("/c%d", "2"),
     ("/e^f", "3"), ("/g|h", "4"), (r"/i\j", "5"), ("/k\"l", "6"), ("/ ", "7"), ("/m~0n", "8"),
 ];
 
-/// The examples of RFC 6901, section 5.
+/// Checks the examples of RFC 6901, section 5.
 #[test]
 fn pointers_of_the_rfc(rt: HostRuntime) {
     let value = parsed(&rt, rt.alloc(), RFC);
@@ -170,13 +173,13 @@ const NESTED: &str = r#"{"a":[{"m~/n":[1]}]}"#;
 /// Pointers to the containers of `NESTED`, the outermost first.
 static CONTAINERS: [&str; 4] = ["", "/a", "/a/0", "/a/0/m~0~1n"];
 
-/// Pointers that pass these containers. The last four name nothing.
+/// Pointers that pass through these containers. The last four refer to no value.
 #[rattlefmt::skip]
 static PASSING: [&str; 8] = [
     "", "/a", "/a/0/m~0~1n", "/a/0/m~0~1n/0", "/a/0/m~0~1n/1", "/a/0/m~1n", "/a/0/m~0~1n/0/d", "/a/~",
 ];
 
-/// Reserves capacity for 50 more elements or entries where a pointer leads.
+/// Reserves capacity for 50 more elements or entries in the array or object at `pointer`.
 fn reserve(rt: &impl Abort, value: &mut IValue, pointer: &str) {
     if let Ok(Some(found)) = resolve_mut(value, pointer) {
         match found.destructure_mut() {
@@ -189,7 +192,7 @@ fn reserve(rt: &impl Abort, value: &mut IValue, pointer: &str) {
     }
 }
 
-/// The capacity of an array or an object.
+/// Returns the capacity of an array or object, or 0 for another value.
 fn capacity(value: &IValue) -> usize {
     match value.destructure_ref() {
         DestructuredRef::Array(array) => array.capacity(),
@@ -198,7 +201,8 @@ fn capacity(value: &IValue) -> usize {
     }
 }
 
-/// Asserts that each container of `NESTED` has capacity for its one element and 50 more.
+/// Asserts that each container of `NESTED` has a capacity of 51: for its element or entry, and 50
+/// more.
 fn has_capacities(rt: &impl Abort, value: &IValue) {
     for &pointer in &CONTAINERS {
         let found = resolve(value, pointer).expect(rt, pointer);
@@ -207,7 +211,7 @@ fn has_capacities(rt: &impl Abort, value: &IValue) {
     }
 }
 
-/// Follows a pointer in both ways, and writes nothing.
+/// Resolves `pointer` by two calls without writing, and returns `true` if both find a value.
 fn pass(value: &mut IValue, pointer: &str) -> bool {
     let found = resolve_mut(value, pointer).is_ok();
     resolve_opened_mut(value, pointer).is_ok() && found

@@ -1,5 +1,9 @@
-//! Strings and their cache: any size works, the number of allocations, the words that strings feed a hasher, the printed output, how often
-//! strings are hashed, and the cache after a failed allocation.
+//! Tests of strings and their cache:
+//!
+//! - strings of all sizes, and their properties;
+//! - the number of allocations, and the cache after a failed allocation;
+//! - how often strings are hashed;
+//! - the seed of a `SeededState`.
 
 mod cache;
 mod large;

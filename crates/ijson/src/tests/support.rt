@@ -1,4 +1,7 @@
-//! What the tests of all modules share: strings and values from text, what is written and shown, words for hashers, and counted allocations.
+//! Functions that the tests of several modules share.
+//!
+//! They create strings and values from text, check output and the words fed to a hasher, and count
+//! allocations.
 
 use crate::json::{JsonError, from_json, to_json};
 use crate::string::{IString, StringCache};
@@ -17,7 +20,7 @@ pub fn empty_cache(alloc: Global) -> Cache {
     StringCache::new(alloc, BuildHasherDefault::<FoldHasher>::new())
 }
 
-/// Returns a string, interned in a cache of its own.
+/// Returns the string `letters`, interned in a new cache.
 pub fn key(rt: &impl Abort, alloc: Global, letters: &str) -> IString {
     let mut cache = empty_cache(alloc);
     let text = granted!(rt; IString::intern(&mut cache, letters));
@@ -25,7 +28,7 @@ pub fn key(rt: &impl Abort, alloc: Global, letters: &str) -> IString {
     text
 }
 
-/// Returns the string, interned in this cache.
+/// Returns the string `text`, interned in `cache`.
 pub fn interned<S: BuildHasher>(
     rt: &impl Abort,
     cache: &mut StringCache<S>,
@@ -34,12 +37,12 @@ pub fn interned<S: BuildHasher>(
     granted!(rt; IString::intern(cache, text))
 }
 
-/// Replaces a value. The old one is dropped here, whatever its type.
+/// Replaces the value in `place`, and drops the old value, whatever its type.
 pub fn set<T: Drop>(place: &mut T, value: T) {
     *place = value;
 }
 
-/// Replaces a value by another one, unless its allocation failed.
+/// Stores the value of `made` in `place`. Returns `false` if the allocation of the value failed.
 pub fn is_set<T: Drop>(place: &mut T, made: Result<T, AllocError>) -> bool {
     match made {
         Ok(value) => {
@@ -50,7 +53,7 @@ pub fn is_set<T: Drop>(place: &mut T, made: Result<T, AllocError>) -> bool {
     }
 }
 
-/// Parses `text`, with a cache of its own.
+/// Returns the value of the JSON text `text`, read with a new cache.
 pub fn parsed(rt: &impl Abort, alloc: Global, text: &str) -> IValue {
     let mut cache = empty_cache(alloc);
     let value = granted!(rt; JsonError::Memory; from_json(alloc, &mut cache, text));
@@ -58,13 +61,13 @@ pub fn parsed(rt: &impl Abort, alloc: Global, text: &str) -> IValue {
     value
 }
 
-/// Asserts the JSON text of a value.
+/// Asserts that `value` is written as the JSON text `want`.
 pub fn is_written(rt: &impl Abort, alloc: Global, value: &IValue, want: &str) {
     let written = granted!(rt; to_json(alloc, value));
     assert!(*rt; written.as_str() == want, "{written} is not {want}");
 }
 
-/// Asserts the debug output of a value.
+/// Asserts that the debug output of `shown` is `want`.
 pub fn is_shown<T: Debug>(rt: &impl Abort, alloc: Global, shown: &T, want: &str) {
     let text = granted!(rt; format!(in alloc; "{shown:?}"));
     assert!(*rt; text.as_str() == want, "{text} is not {want}");
@@ -75,7 +78,8 @@ fn passed_on<E: Error>(fault: E) -> anyhow::Result<()> {
     Ok(())
 }
 
-/// Asserts the debug output of an error, and the message of the error that `?` converts it to.
+/// Asserts that the debug output of `fault` is `shown`, and that `?` converts `fault` to an error
+/// with the message `message`.
 pub fn is_told<E: Error>(rt: &impl Abort, alloc: Global, fault: E, message: &str, shown: &str) {
     is_shown(rt, alloc, &fault, shown);
     let error = passed_on(fault).err().expect(rt, message);
@@ -83,7 +87,7 @@ pub fn is_told<E: Error>(rt: &impl Abort, alloc: Global, fault: E, message: &str
     assert!(*rt; found.as_str() == message, "{found} is not {message}");
 }
 
-/// Returns an integer in a type, if the type has it.
+/// Returns `integer` as a `T`, or `None` if it is missing or out of range.
 pub fn in_type<T: TryFrom<i128>>(integer: Option<i128>) -> Option<T>
 where
     T::Error: Drop,
@@ -91,14 +95,16 @@ where
     T::try_from(integer?).ok()
 }
 
-/// Returns the hash of a value.
+/// Returns the hash of `value` by std's default hasher.
 pub fn hash_of<T: Hash>(value: &T) -> u64 {
     let mut hasher = DefaultHasher::new();
     value.hash(&mut hasher);
     hasher.finish()
 }
 
-/// Asserts that two values are equal, also in their order and their hashes, which does not allocate.
+/// Asserts that two values are equal by `==`, by their order and by their hashes.
+///
+/// The comparisons must not allocate.
 pub fn are_same<T: Hash + PartialOrd>(rt: &impl Abort, alloc: Global, one: &T, other: &T) {
     counted!(alloc; {
         assert!(*rt; one == other && other == one);
@@ -107,14 +113,17 @@ pub fn are_same<T: Hash + PartialOrd>(rt: &impl Abort, alloc: Global, one: &T, o
     });
 }
 
-/// Compares the words of `write_u64` with the wanted ones.
+/// A hasher that compares the words given to `write_u64` with the words `wanted`.
 ///
-/// By default `write_i64` calls `write_u64`, and every other call ends in `write`. The content of a cell is no part of a value, so
-/// contracts do not see it change.
+/// `write_i64` is defined, since by default it would call `write_u64`. All other methods call
+/// `write`. Both make the comparison fail.
+///
+/// In contracts the content of a `Cell` is not part of a value, so counting words does not change
+/// the hasher.
 #[derive(Drop)]
 struct Comparing<'a> {
     wanted: &'a [u64],
-    /// The number of words so far, or `usize::MAX` if one differs or anything else was fed.
+    /// The number of words fed so far, or `usize::MAX` if any input differed from `wanted`.
     count: &'a Cell<usize>,
 }
 
@@ -143,7 +152,7 @@ impl Hasher for Comparing<'_> {
     }
 }
 
-/// Asserts that `value` feeds these words, each by `write_u64`, and nothing else.
+/// Asserts that `value` feeds a hasher exactly the words `wanted`, each by `write_u64`.
 pub fn feeds<T: Hash>(rt: &impl Abort, value: &T, wanted: &[u64]) {
     let count = Cell::new(0);
     let mut hasher = Comparing {
@@ -154,13 +163,15 @@ pub fn feeds<T: Hash>(rt: &impl Abort, value: &T, wanted: &[u64]) {
     assert!(*rt; count.get() == wanted.len());
 }
 
-/// The size of the block that begins a count of allocations, for `tests/alloc/refuse.c`.
+/// The size, in bytes, of the allocation at which `tests/alloc/refuse.c` starts a count.
 const COUNT_BEGINS: usize = 1_234_567;
 
-/// The size of the block that ends a count of no allocations. Each one that is expected adds a byte.
+/// The size, in bytes, of the allocation that ends a count in which no allocation is expected.
+///
+/// Each expected allocation adds a byte to the size.
 const COUNT_ENDS: usize = 1_300_000;
 
-/// Allocates and frees a block of this size.
+/// Allocates and frees a block of `size` bytes.
 fn mark(alloc: Global, size: usize) {
     match Vec::<u8>::with_capacity(alloc, size) {
         Ok(mark) => drop(mark),
@@ -168,12 +179,14 @@ fn mark(alloc: Global, size: usize) {
     }
 }
 
-/// Begins to count allocations.
+/// Starts a count of allocations.
 pub fn begin_count(alloc: Global) {
     mark(alloc, COUNT_BEGINS);
 }
 
-/// Ends the count of allocations. `tests/alloc/modes` fails a test with another count.
+/// Ends the count of allocations.
+///
+/// `tests/alloc/modes` fails a test if the number of allocations is not `count`.
 pub fn end_count(alloc: Global, count: u8) {
     mark(alloc, COUNT_ENDS + usize::from(count));
 }

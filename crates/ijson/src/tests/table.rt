@@ -1,4 +1,4 @@
-//! Tests of stores beyond the clauses: a script of commands, tables slot by slot, sizes, and numbers of inspections.
+//! Tests of stores: scripts of commands, the slots of tables, sizes, and numbers of inspections.
 
 /// Calls a function for each kind of store.
 macro_rules! each_store {
@@ -31,21 +31,21 @@ use std::fmt::Debug;
 use std::process::Abort;
 use std::str;
 
-/// An entry of the stores here.
+/// An entry of the stores in these tests.
 type Entry = (IString, u64);
 
-/// A table whose keys have one home slot.
+/// A table whose keys all have the same home slot.
 type Crowded = Table<u64, AlwaysZero>;
 
-/// A table with the fixed hash.
+/// A table with the hash `FixedHash`.
 type Fixed = FixedTable<u64>;
 
-/// A handle of a test.
+/// The handle of a test, which can allocate and abort.
 trait Host: AllocGlobal + Abort {}
 
 impl<R: AllocGlobal + Abort> Host for R {}
 
-/// The length of the key in bytes.
+/// A hash that is the length of the key in bytes.
 #[derive(Drop)]
 struct ByLength;
 
@@ -59,7 +59,7 @@ impl KeyHash for ByLength {
     }
 }
 
-/// Always 0.
+/// A hash that is always 0.
 #[derive(Drop)]
 struct AlwaysZero;
 
@@ -71,7 +71,7 @@ impl KeyHash for AlwaysZero {
     }
 }
 
-/// A store of numbers, with the functions that each store has in addition to `PairStore`.
+/// A store of numbers, with the functions that all stores have in addition to `PairStore`.
 trait Store: PairStore<u64> + Debug + Drop {
     fn with_room(alloc: Global, capacity: usize) -> Result<Self, ReserveError>;
 
@@ -81,7 +81,7 @@ trait Store: PairStore<u64> + Debug + Drop {
 
     fn entries(&self) -> &[Entry];
 
-    /// Returns a copy of a table, and `None` for a list.
+    /// Returns a copy of a table, or `None` for a list.
     fn copy(&self, rt: &impl Host) -> Option<Self>;
 }
 
@@ -129,12 +129,12 @@ impl<H: KeyHash + Drop> Store for Table<u64, H> {
     }
 }
 
-/// Returns an empty store of this capacity.
+/// Returns an empty store with the capacity `capacity`.
 fn roomy<S: Store>(rt: &impl Host, capacity: usize) -> S {
     granted!(rt; ReserveError::Memory; S::with_room(rt.alloc(), capacity))
 }
 
-/// Returns a copy of these entries, with spare capacity for one more.
+/// Returns a copy of `pairs`, with spare capacity for one more entry.
 fn copied(rt: &impl Abort, alloc: Global, pairs: &[(IString, u64)]) -> Vec<(IString, u64)>
     ensures { result.items ≡ pairs.now }
 {
@@ -146,7 +146,9 @@ fn copied(rt: &impl Abort, alloc: Global, pairs: &[(IString, u64)]) -> Vec<(IStr
     copies
 }
 
-/// Returns `true` if a store has these entries, each found by its key, and this capacity.
+/// Returns `true` if `store` has exactly the entries `pairs`, and the capacity `capacity`.
+///
+/// Each entry must be found by its key.
 fn holds<S: Store>(store: &S, pairs: &[Entry], capacity: usize) -> bool {
     for (at, (wanted, number)) in pairs.iter().enumerate() {
         let key = wanted.as_str();
@@ -164,7 +166,9 @@ fn holds<S: Store>(store: &S, pairs: &[Entry], capacity: usize) -> bool {
     store.entries() == pairs && store.len() == pairs.len() && store.capacity() == capacity
 }
 
-/// Returns the key of a number: one character, which does not allocate, and an `a` if it is longer.
+/// Returns the key of `number`: a single character, and an `a` after it if `is_longer` is set.
+///
+/// The key does not allocate.
 fn numbered(rt: &impl Host, number: u16, is_longer: bool) -> IString {
     let character = char::from_u32(0x4e00 + u32::from(number)).expect(rt, "a character");
     let mut bytes = [b'a'; 4];
@@ -174,11 +178,11 @@ fn numbered(rt: &impl Host, number: u16, is_longer: bool) -> IString {
     key(rt, rt.alloc(), letters.expect(rt, "a text"))
 }
 
-/// A command to a store, whose key is a literal.
+/// A command to a store, with a literal as its key.
 #[derive(Clone, Copy, Drop)]
 enum Step {
     Put(&'static str, u64),
-    /// Inserts a number by its key.
+    /// Inserts a number, with the key that `numbered` returns.
     Number(u16),
     Find(&'static str),
     Remove(&'static str),
@@ -188,14 +192,14 @@ enum Step {
     Clear,
 }
 
-/// How a store is called: by `run`, or by `insert` and `get` for insertions and lookups.
+/// How a store is called: by `run` only, or by `insert` and `get` for insertions and lookups.
 #[derive(Clone, Copy, PartialEq, Drop)]
 enum Way {
     Run,
     Call,
 }
 
-/// Returns the command of a step.
+/// Returns the command of `step`.
 fn command(rt: &impl Host, step: Step) -> Command<u64> {
     let key = |letters| key(rt, rt.alloc(), letters);
     match step {
@@ -210,7 +214,7 @@ fn command(rt: &impl Host, step: Step) -> Command<u64> {
     }
 }
 
-/// Returns `true` if a command does not allocate.
+/// Returns `true` if `command` does not allocate in `store`.
 fn is_quiet<S: Store>(store: &S, command: &Command<u64>) -> bool {
     let vacant = store.capacity().saturating_sub(store.len());
     match command {
@@ -221,7 +225,7 @@ fn is_quiet<S: Store>(store: &S, command: &Command<u64>) -> bool {
     }
 }
 
-/// Returns the reply of `run` to a command, `None` if the list of replies is not allocated.
+/// Returns the reply of `run` to `command`, or `None` if the list of replies cannot be allocated.
 fn ran<S: Store>(rt: &impl Host, store: &mut S, command: Command<u64>) -> Option<Reply<u64>> {
     let (alloc, is_quiet) = (rt.alloc(), is_quiet(store, &command));
     let mut commands = granted!(rt; Vec::with_capacity(alloc, 1));
@@ -237,7 +241,7 @@ fn ran<S: Store>(rt: &impl Host, store: &mut S, command: Command<u64>) -> Option
     }
 }
 
-/// Returns the result of `insert` as a reply.
+/// Inserts an entry, and returns the result of `insert` as a reply.
 fn inserted<S: Store>(store: &mut S, key: IString, value: u64) -> Reply<u64> {
     match store.put(key, value) {
         Ok(None) => Reply::Added,
@@ -246,7 +250,7 @@ fn inserted<S: Store>(store: &mut S, key: IString, value: u64) -> Reply<u64> {
     }
 }
 
-/// Returns the index of a key as a reply, if `get` returns a value for it.
+/// Returns the index of `key` as a reply, if `get` returns a value for `key`.
 fn found<S: Store>(store: &S, key: &str) -> Reply<u64> {
     match store.value_of(key) {
         Some(_) => Reply::Found(store.position(key)),
@@ -254,7 +258,7 @@ fn found<S: Store>(store: &S, key: &str) -> Reply<u64> {
     }
 }
 
-/// Returns the reply of `insert` or `get` to a command, of `run` to another.
+/// Executes `command` by `insert` or `get` if possible, otherwise by `run`, and returns the reply.
 fn called<S: Store>(rt: &impl Host, store: &mut S, command: Command<u64>) -> Option<Reply<u64>> {
     match command {
         Command::Insert(key, value) => Some(inserted(store, key, value)),
@@ -267,7 +271,7 @@ fn called<S: Store>(rt: &impl Host, store: &mut S, command: Command<u64>) -> Opt
     }
 }
 
-/// Returns the reply to a step, `None` if a list of replies is not allocated.
+/// Returns the reply to `step`, or `None` if a list of replies cannot be allocated.
 fn attempt<S: Store>(rt: &impl Host, store: &mut S, step: Step, way: Way) -> Option<Reply<u64>> {
     let command = command(rt, step);
     if way == Way::Run {
@@ -279,7 +283,7 @@ fn attempt<S: Store>(rt: &impl Host, store: &mut S, step: Step, way: Way) -> Opt
     called(rt, store, command)
 }
 
-/// Returns `true` if an allocation failed. A rejected entry is that of the step.
+/// Returns `true` if `reply` is `None` or reports that an allocation for `step` failed.
 fn is_refused(rt: &impl Host, reply: &Option<Reply<u64>>, step: Step) -> bool {
     let refusal = match command(rt, step) {
         Command::Insert(key, value) => Reply::Refused(key, value, ReserveError::Memory),
@@ -290,7 +294,9 @@ fn is_refused(rt: &impl Host, reply: &Option<Reply<u64>>, step: Step) -> bool {
     is_so
 }
 
-/// Returns the reply to a step, which is repeated if an allocation fails. The store is then unchanged.
+/// Returns the reply to `step`, which is repeated if an allocation fails.
+///
+/// A failed step must leave the store unchanged.
 fn reply<S: Store>(rt: &impl Host, store: &mut S, step: Step, way: Way) -> Reply<u64> {
     let (before, capacity) = (copied(rt, rt.alloc(), store.entries()), store.capacity());
     let mut reply = attempt(rt, store, step, way);
@@ -302,7 +308,7 @@ fn reply<S: Store>(rt: &impl Host, store: &mut S, step: Step, way: Way) -> Reply
     reply.expect(rt, "a reply")
 }
 
-/// Asserts the debug output of the reply to a step.
+/// Asserts that the reply to `step` has the debug output `want`.
 fn replies<S: Store>(rt: &impl Host, store: &mut S, step: Step, way: Way, want: &str) {
     let reply = reply(rt, store, step, way);
     is_shown(rt, rt.alloc(), &reply, want);

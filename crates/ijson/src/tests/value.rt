@@ -1,4 +1,4 @@
-//! Tests of values: what is known of each value of a table, and what calls make of it.
+//! Tests of values: the properties of values of all kinds, and the effects of calls on values.
 
 mod built;
 mod known;

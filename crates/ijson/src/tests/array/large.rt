@@ -1,4 +1,4 @@
-//! Many elements.
+//! Tests of arrays with many elements.
 
 use super::{changes_size, each_size, pushes};
 

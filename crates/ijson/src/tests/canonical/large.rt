@@ -1,4 +1,4 @@
-//! Canonical text of many nested objects and of many members.
+//! Tests of the canonical text of many nested objects, and of many entries.
 
 use super::{much_is_sorted, objects_are_sorted};
 

@@ -1,4 +1,6 @@
-//! Each error converts by `?` to an error with its message, and its debug output has its name and fields.
+//! Tests of the messages and the debug output of errors.
+//!
+//! The operator `?` converts each error to an error with the same message.
 
 use crate::array::Refused;
 use crate::convert::ConvertError;
@@ -8,7 +10,7 @@ use crate::table::ReserveError;
 use crate::tests::support::{is_told, key};
 use crate::value::IValue;
 
-/// Errors of a conversion, the message and the debug output of each.
+/// Errors of a conversion, each with its message and debug output.
 #[rattlefmt::skip]
 static OF_CONVERSIONS: [(ConvertError, &str, &str); 4] = [
     (ConvertError::WrongKind, "the value is of another kind", "WrongKind"),
@@ -17,7 +19,7 @@ static OF_CONVERSIONS: [(ConvertError, &str, &str); 4] = [
     (ConvertError::Memory, "out of memory", "Memory"),
 ];
 
-/// Errors of a pointer, the message and the debug output of each.
+/// Errors of a pointer, each with its message and debug output.
 #[rattlefmt::skip]
 static OF_POINTERS: [(Unresolved, &str, &str); 2] = [
     (Unresolved::Nothing, "the JSON Pointer refers to no value", "Nothing"),

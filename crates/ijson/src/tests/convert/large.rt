@@ -1,4 +1,4 @@
-//! Many more letters, elements and entries than the initial capacity.
+//! Tests of conversions of many more letters, elements and entries than the initial capacity.
 
 use super::{items_go_back, letters_go_back, pairs_go_back};
 

@@ -1,8 +1,10 @@
-//! `ijson!` literals.
+//! Tests of `ijson!` literals.
 //!
-//! For each rule of the macro, a function has one literal, and its contract is the tree. So a rule that skips a value, writes another one, or
-//! puts it in another place fails at a goal. The text of each value is asserted too, since a literal that always returns `Memory` meets the
-//! contract.
+//! Each rule of the macro has a function with one literal, whose contract states the tree. If a
+//! rule omits, changes or misplaces a value, a goal of that function cannot be proved.
+//!
+//! The tests assert the text of each value too, since a literal that always returns `Memory` would
+//! meet its contract.
 ghost use Rattle.std.specs.Prelude.{◌≡◌, IfOk, codes, string_bytes};
 ghost use Rattle.ijson_value.specs.Tree.{null, boolean, array, object, no_items, item, no_members, member};
 
@@ -18,48 +20,49 @@ use std::process::Abort;
 /// The result of a literal.
 type Built = Converted<IValue>;
 
-/// The literal is `null`.
+/// Builds the literal `null`.
 fn null_alone(alloc: Global, cache: &mut Cache) -> Built
     ensures { IfOk result (λ value. value.tree ≡ null) }
 {
     ijson!(alloc, cache; null)
 }
 
-/// The literal is an expression.
+/// Builds a literal that is an expression.
 fn expression_alone<T: ToIValue>(alloc: Global, cache: &mut Cache, x: &T) -> Built
     ensures { IfOk result (λ value. value.tree ≡ T.ToIValue.tree x.now) }
 {
     ijson!(alloc, cache; *x)
 }
 
-/// The list and the object are empty.
+/// Builds an empty array.
 fn empty_list(alloc: Global, cache: &mut Cache) -> Built
     ensures { IfOk result (λ value. value.tree ≡ array no_items) }
 {
     ijson!(alloc, cache; [])
 }
 
+/// Builds an empty object.
 fn empty_object(alloc: Global, cache: &mut Cache) -> Built
     ensures { IfOk result (λ value. value.tree ≡ object no_members) }
 {
     ijson!(alloc, cache; {})
 }
 
-/// Null is the first element, and an expression the last.
+/// Builds an array with `null` as its first element, and an expression as its last.
 fn null_first(alloc: Global, cache: &mut Cache, x: bool) -> Built
     ensures { IfOk result (λ value. value.tree ≡ array (item null (item (boolean x) no_items))) }
 {
     ijson!(alloc, cache; [null, x])
 }
 
-/// An expression is the first element, and null the last, before a comma.
+/// Builds an array with an expression as its first element, and `null` before a trailing comma.
 fn null_last(alloc: Global, cache: &mut Cache, x: bool) -> Built
     ensures { IfOk result (λ value. value.tree ≡ array (item (boolean x) (item null no_items))) }
 {
     ijson!(alloc, cache; [x, null,])
 }
 
-/// A list is the first element.
+/// Builds an array with an array as its first element.
 fn list_first(alloc: Global, cache: &mut Cache, x: bool, y: bool) -> Built
     ensures { IfOk result (λ value. value.tree
         ≡ array (item (array (item (boolean x) no_items)) (item (boolean y) no_items))) }
@@ -67,7 +70,7 @@ fn list_first(alloc: Global, cache: &mut Cache, x: bool, y: bool) -> Built
     ijson!(alloc, cache; [[x], y])
 }
 
-/// An object with a member is the first element.
+/// Builds an array with an object of one entry as its first element.
 fn object_first(alloc: Global, cache: &mut Cache, x: bool, y: bool) -> Built
     ensures { IfOk result (λ value. value.tree
         ≡ array (item (object (member (codes "a") (boolean x) no_members)) (item (boolean y) no_items))) }
@@ -75,7 +78,7 @@ fn object_first(alloc: Global, cache: &mut Cache, x: bool, y: bool) -> Built
     ijson!(alloc, cache; [{"a": x}, y])
 }
 
-/// An object with a member is the last element.
+/// Builds an array with an object of one entry as its last element.
 fn object_last(alloc: Global, cache: &mut Cache, x: bool, y: bool) -> Built
     ensures { IfOk result (λ value. value.tree
         ≡ array (item (boolean x) (item (object (member (codes "a") (boolean y) no_members)) no_items))) }
@@ -83,7 +86,7 @@ fn object_last(alloc: Global, cache: &mut Cache, x: bool, y: bool) -> Built
     ijson!(alloc, cache; [x, {"a": y}])
 }
 
-/// Null is the value of the first member, and an expression of the last.
+/// Builds an object with `null` as its first value, and an expression as its last.
 fn null_member(alloc: Global, cache: &mut Cache, x: bool) -> Built
     ensures { IfOk result (λ value. value.tree
         ≡ object (member (codes "a") null (member (codes "b") (boolean x) no_members))) }
@@ -91,7 +94,7 @@ fn null_member(alloc: Global, cache: &mut Cache, x: bool) -> Built
     ijson!(alloc, cache; {"a": null, "b": x})
 }
 
-/// An expression is the value of the first member, and null of the last, before a comma.
+/// Builds an object with an expression as its first value, and `null` before a trailing comma.
 fn null_member_last(alloc: Global, cache: &mut Cache, x: bool) -> Built
     ensures { IfOk result (λ value. value.tree
         ≡ object (member (codes "a") (boolean x) (member (codes "b") null no_members))) }
@@ -99,7 +102,7 @@ fn null_member_last(alloc: Global, cache: &mut Cache, x: bool) -> Built
     ijson!(alloc, cache; {"a": x, "b": null,})
 }
 
-/// A list is the value of the first member.
+/// Builds an object with an array as its first value.
 fn list_member(alloc: Global, cache: &mut Cache, x: bool, y: bool) -> Built
     ensures { IfOk result (λ value. value.tree
         ≡ object (member (codes "a") (array (item (boolean x) no_items)) (member (codes "b") (boolean y) no_members))) }
@@ -107,7 +110,7 @@ fn list_member(alloc: Global, cache: &mut Cache, x: bool, y: bool) -> Built
     ijson!(alloc, cache; {"a": [x], "b": y})
 }
 
-/// An object with a member is the value of the last member.
+/// Builds an object with an object of one entry as its last value.
 fn object_member(alloc: Global, cache: &mut Cache, x: bool, y: bool) -> Built
     ensures { IfOk result (λ value. value.tree
         ≡ object (member (codes "a") (boolean x)
@@ -116,73 +119,74 @@ fn object_member(alloc: Global, cache: &mut Cache, x: bool, y: bool) -> Built
     ijson!(alloc, cache; {"a": x, "b": {"c": y}})
 }
 
-/// A later equal key replaces the value.
+/// Builds an object with a duplicate key, whose last value replaces the first.
 fn repeated_key(alloc: Global, cache: &mut Cache, x: bool, y: bool) -> Built
     ensures { IfOk result (λ value. value.tree ≡ object (member (codes "a") (boolean y) no_members)) }
 {
     ijson!(alloc, cache; {"a": x, "a": y})
 }
 
-/// A key consists of several tokens.
+/// Builds an object with a key that consists of several tokens.
 fn key_of_tokens(alloc: Global, cache: &mut Cache, key: &String, x: bool) -> Built
     ensures { IfOk result (λ value. value.tree ≡ object (member (string_bytes key.now) (boolean x) no_members)) }
 {
     ijson!(alloc, cache; {key.as_str(): x})
 }
 
-/// A key of several tokens has null as its value.
+/// Builds an object with `null` as the value of a key that consists of several tokens.
 fn null_of_tokens(alloc: Global, cache: &mut Cache, key: &String) -> Built
     ensures { IfOk result (λ value. value.tree ≡ object (member (string_bytes key.now) null no_members)) }
 {
     ijson!(alloc, cache; {key.as_str(): null})
 }
 
-// Each literal is in a function of its own, with nothing else to drop: each call of its expansion is an exit that drops the lists and
-// objects built so far.
+// Each literal has a function of its own, with nothing else to drop, because each call in its
+// expansion is an exit that drops the arrays and objects built so far.
 
-/// Entries of each kind of value, a duplicate key, a key that is an expression, and a trailing comma.
+/// Builds an object with a duplicate key, a key that is an expression, and a trailing comma.
 fn pairs(alloc: Global, cache: &mut Cache, key: &str) -> Built {
     ijson!(alloc, cache; {"name": "ijson", "sizes": [], key: {}, "name": [],})
 }
 
-/// A string, an empty list, and a list with a trailing comma.
+/// Builds an object with a string, an empty array, and an array with a trailing comma.
 fn strings(alloc: Global, cache: &mut Cache) -> Built {
     ijson!(alloc, cache; {"foo": "bar", "x": [], "y": [1, null, true,]})
 }
 
-/// An object in an object in an object.
+/// Builds three nested objects.
 fn objects(alloc: Global, cache: &mut Cache, key: &str) -> Built {
     ijson!(alloc, cache; {key: {"deep": true, "none": {}}})
 }
 
-/// A list in a list, and an element of more than one token.
+/// Builds an array with an empty array, and an element of more than one token.
 fn tokens(alloc: Global, cache: &mut Cache, n: i64) -> Built {
     ijson!(alloc, cache; [[], n / 2])
 }
 
-/// A key and a string that allocate, and an object in a list that a duplicate key replaces.
+/// Builds an object with a long key and a long string; the duplicate key replaces an array with an
+/// object.
 fn long(alloc: Global, cache: &mut Cache) -> Built {
     ijson!(alloc, cache; {"longlong": ["eight888", {}], "c": {}, "longlong": ["x"]})
 }
 
-/// A value, a number, a tuple and an array.
+/// Builds an object from an `IValue`, an `INumber`, a tuple and an array.
 fn values(alloc: Global, cache: &mut Cache, value: IValue, number: INumber) -> Built {
     ijson!(alloc, cache; {"a": [value], "n": number, "s": ("x", [1u8, 2])})
 }
 
-/// The example of the documentation.
+/// Builds the example of the documentation.
 fn example(alloc: Global, cache: &mut Cache) -> Built {
     ijson!(alloc, cache; {"name": "ijson", "sizes": [1u8, 2u8, null], "nested": {"deep": true}})
 }
 
-/// Asserts the text of the value of each literal. Returns the error if an allocation for a literal fails.
+/// Asserts the text of the value of each literal. Returns the error if an allocation fails.
 macro_rules! are_written {
     ($rt:expr, $alloc:expr; $($literal:expr => $want:expr;)+) => {
         $(is_built($rt, $alloc, $literal?, $want);)+
     };
 }
 
-/// Asserts the text of the value of a literal.
+/// Asserts that `value`, the value of a literal, is written as `want`.
 fn is_built(rt: &impl Abort, alloc: Global, value: IValue, want: &str) {
     is_written(rt, alloc, &value, want);
     drop(value);
@@ -230,7 +234,9 @@ fn mixed(rt: &impl Abort, alloc: Global, cache: &mut Cache) -> Converted<()> {
     Ok(())
 }
 
-/// No literal removes a string from a cache, so a string that a failed call left there is counted too.
+/// Checks the text of each literal's value, and that exactly two strings are interned.
+///
+/// No literal removes a string from a cache, so a string that a failed call added is counted too.
 #[test]
 fn literals_are_values(rt: HostRuntime) {
     let alloc = rt.alloc();

@@ -1,4 +1,5 @@
-//! Conversions to `serde_json` and back, as a value and by the call for each kind.
+//! Tests of conversions to `serde_json` and back, by the call for values and by the calls for each
+//! kind.
 
 use super::{Converted, has_strings, used_cache};
 use crate::convert::{
@@ -14,9 +15,10 @@ use std::process::Abort;
 
 const NUMBER: Converted<&str> = Err(ConvertError::Number);
 
-/// Texts, and the text of each value after a conversion.
+/// JSON texts, each with the text of its value, or the error, after two conversions.
 ///
-/// The first conversion is to `serde_json` and back, the second from the value that `serde_json` reads.
+/// The first conversion is to `serde_json` and back. The second conversion starts with the value
+/// that `serde_json` reads from the text.
 #[rattlefmt::skip]
 static SERDE: [(&str, Converted<&str>, Converted<&str>); 19] = [
     (r#"{"b":1,"a":2.0}"#, Ok(r#"{"a":2,"b":1}"#), NUMBER),
@@ -38,10 +40,10 @@ static SERDE: [(&str, Converted<&str>, Converted<&str>); 19] = [
     (WRITTEN, Ok(r#"{"longlong":["eight888",{}],"n":[1,{"m":2}]}"#), NUMBER),
 ];
 
-/// The text of a value that is written as it was before the conversions.
+/// The JSON text of a value that must be unchanged after the conversions.
 const WRITTEN: &str = r#"{"longlong":["eight888",{}],"n":[1,{"m":2.0}]}"#;
 
-/// Converts a value of `serde_json` by the call for its kind.
+/// Converts a `serde_json` value to a value, by the call for its kind.
 fn from_kind(alloc: Global, cache: &mut Cache, value: &Value) -> Converted<IValue> {
     match value {
         Value::Number(number) => Ok(IValue::from(counted!(alloc; from_serde_number(number))?)),
@@ -81,7 +83,9 @@ fn by_kind(alloc: Global, cache: &mut Cache, value: &IValue) -> Converted<IValue
     back
 }
 
-/// Asserts that a result is an equal value with the wanted text, whose strings are in the cache, or the wanted error.
+/// Asserts that `answer` is the wanted error, or a value equal to `same` that has the wanted text.
+///
+/// `cache` must contain the strings of the value.
 fn is_wanted(
     rt: &impl Abort,
     alloc: Global,
@@ -103,7 +107,9 @@ fn is_wanted(
     drop(cache);
 }
 
-/// Asserts what converting a value and back gives. It is converted as a value and by kind.
+/// Asserts the text or the error `back` of converting `value` to `serde_json` and back.
+///
+/// The conversions use the call for values, and then the calls for each kind.
 fn goes_back(rt: &impl Abort, alloc: Global, value: &IValue, back: Converted<&str>) {
     let mut cache = used_cache(rt, alloc);
     let answer = settled!(there_and_back(alloc, &mut cache, value));
@@ -113,7 +119,10 @@ fn goes_back(rt: &impl Abort, alloc: Global, value: &IValue, back: Converted<&st
     is_wanted(rt, alloc, cache, answer, value, back);
 }
 
-/// Asserts what the value that `serde_json` reads from a text is converted to, as a value and by kind.
+/// Asserts the text or the error `over` of converting the value that `serde_json` reads from
+/// `text`.
+///
+/// The conversions use the call for values, and then the calls for each kind.
 fn goes_over(rt: &impl Abort, alloc: Global, text: &str, value: &IValue, over: Converted<&str>) {
     let there = match Value::from_str(alloc, text) {
         Ok(there) => there,

@@ -1,4 +1,4 @@
-//! `compact` and `report` over devices that move few bytes at a time, and fail.
+//! Tests of `compact` and `report` with devices that move few bytes per call, or fail.
 
 ghost use Rattle.std.specs.Prelude.{◌≤◌, IfOk};
 ghost use Rattle.ijson_json.specs.Compacts.{IsCompactLine};
@@ -17,13 +17,17 @@ use std::io;
 use std::io::{ErrorKind, Read, Write};
 use std::process::Abort;
 
-/// The most bytes that a call moves, and the number of bytes after which reading and writing fail.
+/// The maximum number of bytes per call, and the numbers of bytes after which reading and writing
+/// fail.
 type Devices = (usize, usize, usize);
 
-/// A result of `compact`, and what it wrote.
+/// A result of `compact`, and the bytes that it wrote.
 type Outcome<'a> = (Result<(), CompactError>, &'a [u8]);
 
-/// Compacts a text to a sink from a source of `piece` bytes a call that fails after `most`. Repeats that if an allocation fails.
+/// Compacts `text` to `output`, from a source of `piece` bytes per call that fails after `most`
+/// bytes.
+///
+/// The call is repeated once if an allocation fails.
 fn compacted<W: Sink>(
     rt: &impl Abort,
     alloc: Global,
@@ -44,7 +48,8 @@ fn compacted<W: Sink>(
     answer
 }
 
-/// Asserts the result of `compact` over devices, what it wrote, and the report of the result.
+/// Asserts that `compact` returns `want` and writes `written`, and that `report` reports the
+/// result.
 pub fn follows(
     rt: &impl Abort,
     alloc: Global,
@@ -65,7 +70,9 @@ const TEXT: &[u8] = b"[1.50,true]";
 
 const LINE: &[u8] = b"[1.5,true]\n";
 
-/// Asserts that nothing is written for a source that fails, and a beginning of the line to a sink that fails.
+/// Asserts the output of `compact` with devices that fail after each number of bytes.
+///
+/// If the source fails, nothing is written. If the sink fails, a prefix of the line is written.
 pub fn fail_after_each_byte(rt: &impl Abort, alloc: Global, piece: usize) {
     let mut cache = used_cache(rt, alloc);
     let (unread, cut) = (Err(CompactError::Read), Err(CompactError::Write));
@@ -85,14 +92,15 @@ fn devices_that_fail(rt: HostRuntime) {
     fail_after_each_byte(&rt, rt.alloc(), 3);
 }
 
-/// Inputs, the outcome of `compact` for each, and the number of strings that it adds to a cache.
+/// Inputs, each with the outcome of `compact` and the number of strings that `compact` adds to the
+/// cache.
 static COMPACTED: [(&[u8], Outcome<'static>, usize); 3] = [
     (b"[1.50]", (Ok(()), b"[1.5]\n"), 0),
     (b"[ \"longlong\" ]", (Ok(()), b"[\"longlong\"]\n"), 1),
     (b"\"\xff\"", (Err(CompactError::NotUtf8), b""), 0),
 ];
 
-/// Asserts the outcomes for inputs over devices that move `piece` bytes a call.
+/// Asserts the outcomes of `COMPACTED` with devices that move `piece` bytes per call.
 fn are_compacted(rt: &impl Abort, alloc: Global, piece: usize) {
     for &(text, outcome, added) in &COMPACTED {
         let mut cache = used_cache(rt, alloc);
@@ -127,7 +135,10 @@ fn compacting_to_a_value(rt: HostRuntime) {
     drop(value);
 }
 
-/// The input has two blocks and its value three: two lists, and the box of one. The line is made in the memory of the input.
+/// Checks that the compact line is written into the memory of the input.
+///
+/// Reading the input takes two allocations. Its value takes three: two lists, and a box for one of
+/// the lists.
 #[test]
 fn a_line_allocates_nothing(rt: HostRuntime) {
     let alloc = rt.alloc();
@@ -141,7 +152,8 @@ fn a_line_allocates_nothing(rt: HostRuntime) {
     drop(cache);
 }
 
-/// The input exceeds the memory allocated for it at first, and the line that of the input.
+/// Checks an input that outgrows its first allocation, and a line that outgrows the memory of the
+/// input.
 #[test]
 fn a_line_longer_than_its_text(rt: HostRuntime) {
     let alloc = rt.alloc();
@@ -155,7 +167,9 @@ fn a_line_longer_than_its_text(rt: HostRuntime) {
     drop(cache);
 }
 
-/// A reader of its bytes and a writer that move at most `piece` bytes a call, or fail, and count their calls.
+/// A stream that moves at most `piece` bytes per call, or fails with `fault`, and counts its calls.
+///
+/// Calls read from `left` and write to `written`.
 #[derive(Drop)]
 struct Stream<'a> {
     left: &'a [u8],
@@ -176,7 +190,7 @@ impl<'a> Stream<'a> {
         }
     }
 
-    /// Counts a call that can move `most` bytes, and returns how many it moves.
+    /// Counts a call that can move up to `most` bytes, and returns the number of bytes to move.
     fn call(&mut self, most: usize) -> io::Result<usize>
         ensures { IfOk result (λ n. n ≤ most) }
     {
@@ -211,7 +225,9 @@ impl Write for Stream<'_> {
     }
 }
 
-/// Asserts that any error is a fault, also an interruption, which std's `read_exact` and `write_all` would repeat.
+/// Asserts that an error of the kind `kind` is a device fault.
+///
+/// This includes `Interrupted`, after which std's `read_exact` and `write_all` would try again.
 fn is_a_fault(rt: &impl Abort, alloc: Global, kind: ErrorKind) {
     let mut input = StreamSource::new(Stream::new(alloc, b"", 3, Some(kind)));
     let mut output = StreamSink::new(Stream::new(alloc, b"", 3, Some(kind)));
@@ -242,7 +258,9 @@ fn streams_that_fail(rt: HostRuntime) {
     assert!(rt; full.write(b"a") == Err(DeviceFault) && full.failures() == 1);
 }
 
-/// Returns the output for these bytes, through streams that know their bytes.
+/// Returns the compact line of `bytes`, which are read from a queue and written to a queue.
+///
+/// The contracts of a queue describe its bytes, so that a clause can state the line.
 fn queued(alloc: Global, bytes: &[u8]) -> Result<VecDeque<u8>, CompactError>
     ensures line { IfOk result (λ written. IsCompactLine bytes.now written.items) }
 {
@@ -252,7 +270,9 @@ fn queued(alloc: Global, bytes: &[u8]) -> Result<VecDeque<u8>, CompactError>
     Ok(sink.into_inner())
 }
 
-/// Passes a text through streams of three bytes a call, and returns `false` if an allocation fails.
+/// Compacts `text` with streams of three bytes per call, and asserts that `line` is written.
+///
+/// Returns `false` if an allocation fails.
 fn streamed(rt: &impl Abort, alloc: Global, text: &[u8], line: &[u8]) -> bool {
     let mut input = StreamSource::new(Stream::new(alloc, text, 3, None));
     let mut output = StreamSink::new(Stream::new(alloc, b"", 3, None));
@@ -266,7 +286,7 @@ fn streamed(rt: &impl Abort, alloc: Global, text: &[u8], line: &[u8]) -> bool {
     true
 }
 
-/// Passes a short text through queues, and a long one through streams that move few bytes a call.
+/// Compacts a short text with queues, and a long text with streams that move three bytes per call.
 #[test]
 fn streams_pass_bytes_on(rt: HostRuntime) {
     let alloc = rt.alloc();

@@ -1,4 +1,5 @@
-//! Errors: their messages and debug output, lines and columns, and what `report` writes and returns.
+//! Tests of errors: messages, debug output, lines and columns, and the output and status of
+//! `report`.
 
 use crate::json::{
     CompactError, DeviceFault, JsonError, MemorySink, Sink, line_and_column, report,
@@ -7,7 +8,7 @@ use crate::tests::support::{is_shown, is_told};
 use std::alloc::{AllocError, Global};
 use std::process::Abort;
 
-/// Errors of `compact`, the status of each, its message, and its debug output.
+/// Errors of `compact`, each with its status, message and debug output.
 #[rattlefmt::skip]
 static ERRORS: [(CompactError, u8, &str, &str); 9] = [
     (CompactError::Json(JsonError::Syntax { at: 3 }), 1, "syntax at byte 3", "Json(Syntax { at: 3 })"),
@@ -22,7 +23,8 @@ static ERRORS: [(CompactError, u8, &str, &str); 9] = [
     (CompactError::Memory, 3, "out of memory", "Memory"),
 ];
 
-/// Texts, an error in each, and the message and debug output of the error with its line and column.
+/// JSON texts, each with an error in it, and the message and debug output of the error with its
+/// line and column.
 #[rattlefmt::skip]
 static LOCATED: [(&str, JsonError, &str, &str); 4] = [
     ("[1,\n\u{e9}]", JsonError::Syntax { at: 6 },
@@ -34,7 +36,10 @@ static LOCATED: [(&str, JsonError, &str, &str); 4] = [
     ("1", JsonError::Memory, "out of memory", "Memory"),
 ];
 
-/// Asserts that nothing is reported for success, and the line and the status of an error, to a sink that moves `piece` bytes a call.
+/// Asserts what `report` returns and writes for `answer`, with a sink that moves `piece` bytes per
+/// call.
+///
+/// For success, the status is 0 and nothing is written.
 pub fn is_reported(
     rt: &impl Abort,
     alloc: Global,
@@ -57,7 +62,9 @@ pub fn is_reported(
     }
 }
 
-/// Asserts what `report` writes and returns for an error with this message.
+/// Asserts that `report` returns `status` for `error`, and writes a line with `message`.
+///
+/// If the sink fails, the status is the same, and a prefix of the line is written.
 fn reports(rt: &impl Abort, alloc: Global, error: CompactError, status: u8, message: &str) {
     let line = granted!(rt; format!(in alloc; "ijson: {message}\n"));
     let mut errors = granted!(rt; MemorySink::new(alloc, 4, 21_000));

@@ -1,4 +1,4 @@
-//! The tables of texts and devices at each number of bytes a call, and long texts.
+//! Tests of the tables of texts with few bytes per call, and of long and deep JSON texts.
 
 use super::devices::fail_after_each_byte;
 use super::texts::{
@@ -9,7 +9,7 @@ use super::{Parts, numbered, repeated};
 use crate::tests::support::{is_written, parsed};
 use std::alloc::AllocError;
 
-/// Devices that move 1 and 2 bytes a call.
+/// Checks the tables of texts with devices that move 1 and 2 bytes per call.
 #[test]
 fn few_bytes_a_call(rt: HostRuntime) {
     for piece in 1..3usize {
@@ -20,7 +20,7 @@ fn few_bytes_a_call(rt: HostRuntime) {
     }
 }
 
-/// Texts of the maximum depth.
+/// JSON texts of the maximum nesting depth.
 static DEEPEST: [Parts; 2] = [
     ("", "[", 127, "", "]", ""),
     ("", "{\"a\":", 127, "null", "}", ""),
@@ -43,7 +43,7 @@ fn deep_texts_and_many_members(rt: HostRuntime) {
     }
 }
 
-/// An array of more elements than 16 bits can count.
+/// Checks an array with more elements than 16 bits can count.
 #[test]
 fn many_elements(rt: HostRuntime) {
     let text = repeated(&rt, rt.alloc(), &("[", "1,", 700_000, "", "", "1]"));

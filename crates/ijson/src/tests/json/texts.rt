@@ -1,5 +1,7 @@
-//! Texts, and what is known of each: the text written for it, the words and the capacity of its value, the strings it adds to a cache, or
-//! where it is rejected.
+//! Tests of tables of JSON texts, each with a property that is asserted.
+//!
+//! The properties are the text that is written, the words and the capacity of the value, the
+//! strings added to a cache, and the error.
 
 use super::devices::follows;
 use super::{Parts, repeated};
@@ -10,22 +12,22 @@ use crate::value::{DestructuredRef, IValue};
 use std::alloc::{AllocError, Global};
 use std::process::Abort;
 
-/// What is known of a text.
+/// A property of a JSON text.
 #[derive(Clone, Copy)]
 pub enum Is {
-    /// It is written as this text.
+    /// The value of the text is written as this text.
     As(&'static str),
-    /// It is written as it is read.
+    /// The value of the text is written as the same text.
     Same,
-    /// Its value feeds a hasher these words.
+    /// The value of the text feeds a hasher these words.
     Fed(&'static [u64]),
-    /// Its value has this capacity: its number of elements or entries.
+    /// The value of the text has this capacity, which is its number of elements or entries.
     Room(usize),
-    /// Reading it adds these strings to a cache.
+    /// Reading the text adds these strings to a cache.
     Adds(&'static [&'static str]),
 }
 
-/// Texts, and the text written for each.
+/// JSON texts, each with the text that is written for its value.
 #[rattlefmt::skip]
 pub static WRITTEN: [(&str, Is); 39] = [
     ("-0", Is::As("0")), ("-0.0", Is::As("0.0")), ("-250", Is::Same), ("0.1", Is::Same), ("1.50", Is::As("1.5")),
@@ -34,7 +36,7 @@ pub static WRITTEN: [(&str, Is); 39] = [
     ("1.5E-3", Is::As("0.0015")), ("0.000001", Is::Same), ("0.0000001", Is::As("1e-7")), ("441044444333116.125", Is::Same),
     ("10e1073741823", Is::As("1e1073741824")), ("10e-1073741825", Is::As("1e-1073741824")),
     ("0e99999999999999999999", Is::As("0.0")), ("123456789012345678901234567890", Is::Same),
-    // arrays, objects and words
+    // arrays, objects and a Boolean
     (" [1.50, [true], null, -0.0] ", Is::As("[1.5,[true],null,0.0]")), (" [1.50, true ] ", Is::As("[1.5,true]")),
     ("[]", Is::Same), ("[ [ ] ]", Is::As("[[]]")), ("[1000000000000000000000000]", Is::Same),
     (r#"{ "a" : "b" , "a" : { } }"#, Is::As(r#"{"a":{}}"#)), (r#"{"a":1,"b":2,"a":3}"#, Is::As(r#"{"a":3,"b":2}"#)),
@@ -46,7 +48,8 @@ pub static WRITTEN: [(&str, Is); 39] = [
     (r#""\u0000""#, Is::Same), ("\"\\u0000\u{7f}\"", Is::Same), (r#""a run, an escape\nand one more run é 東京""#, Is::Same),
 ];
 
-/// Texts, and what their values are.
+/// JSON texts, each with the words or the capacity of its value, or with the strings added to a
+/// cache.
 #[rattlefmt::skip]
 static VALUES: [(&str, Is); 32] = [
     ("null", Is::Fed(&[0])), ("false", Is::Fed(&[1, 0])), ("true", Is::Fed(&[1, 1])), ("0", Is::Fed(&[2, 0])),
@@ -72,7 +75,9 @@ static VALUES: [(&str, Is); 32] = [
     (r#"[1.5,[true,{"a":"longlong","eight888":"\n"}],12345678901234567890123,null]"#, Is::Adds(&["longlong", "eight888"])),
 ];
 
-/// A text of each kind of fault: not JSON from the `|` on, or with a number out of range at the `~`.
+/// Texts with a mark at their fault: `|` at a syntax error, `~` at a number that is out of range.
+///
+/// A text is read without its mark.
 #[rattlefmt::skip]
 static FAULTS: [&str; 24] = [
     "|", "|\u{feff}1", "nul|x", "1 |2", "[1 |2]", "[1|", "[1,|]", r#"{"a":1,|}"#, r#"{"a" |1}"#, r#"{"a_key_of_many_bytes":[[1]],|}"#,
@@ -82,7 +87,7 @@ static FAULTS: [&str; 24] = [
     "~1234567890123456789012345678901234e1073741825", "[1,~-0.00000000000000000000000000000000000001e-1073741824]",
 ];
 
-/// Texts of repeated parts, which are written as they are read.
+/// Parts of JSON texts that are written exactly as they are read.
 pub static REPEATED: [Parts; 7] = [
     ("\"", "abcdefg ", 1_000, "", "", "\""),
     ("\"", "\\né", 2_000, "", "", "\""),
@@ -93,28 +98,30 @@ pub static REPEATED: [Parts; 7] = [
     ("1.", "0123456789", 500, "", "", "e9000"),
 ];
 
-/// Texts that are too deep, and the offset of the bracket.
+/// Parts of JSON texts that are nested too deeply, each with the offset of the bracket at fault.
 static DEEP: [(Parts, usize); 2] = [
     (("", "\n[", 128, "", "]", ""), 255),
     (("{\"a\":", "[", 127, "", "]", ",\"a\":1}"), 131),
 ];
 
-/// A string that is in a cache before a text is read.
+/// A string that is in the cache before a text is read.
 const OTHER: &str = "a text that was there";
 
-/// Returns a cache that contains one string.
+/// Returns a cache that contains only the string `OTHER`.
 pub fn used_cache(rt: &impl Abort, alloc: Global) -> Cache {
     let mut cache = empty_cache(alloc);
     drop(granted!(rt; IString::intern(&mut cache, OTHER)));
     cache
 }
 
-/// Returns `true` if a used cache still contains its string, and this number of others.
+/// Returns `true` if `cache` contains `OTHER` and exactly `others` other strings.
 pub fn is_kept(cache: &Cache, others: usize) -> bool {
     cache.contains(OTHER) && cache.len() == others.saturating_add(1)
 }
 
-/// Asserts the text written for a text, also by devices of `piece` bytes a call, and that the value of that is equal.
+/// Asserts that the value of `text` is written as `want`, and that `want` has an equal value.
+///
+/// `compact` must write `want` too, with devices that move `piece` bytes per call.
 pub fn is_rewritten(rt: &impl Abort, alloc: Global, text: &str, want: &str, piece: usize) {
     let value = parsed(rt, alloc, text);
     is_written(rt, alloc, &value, want);
@@ -128,7 +135,7 @@ pub fn is_rewritten(rt: &impl Abort, alloc: Global, text: &str, want: &str, piec
     follows(rt, alloc, &mut empty_cache(alloc), text, devices, outcome);
 }
 
-/// Asserts that a value feeds these words, and that an array or object in it feeds the same.
+/// Asserts that `value`, and the array or object in it, feed a hasher exactly `words`.
 fn feeds_words(rt: &impl Abort, value: &IValue, words: &[u64]) {
     feeds(rt, value, words);
     match value.destructure_ref() {
@@ -138,7 +145,9 @@ fn feeds_words(rt: &impl Abort, value: &IValue, words: &[u64]) {
     }
 }
 
-/// Asserts the capacity of an array or object, and of a copy of an object.
+/// Asserts that the array or object in `value` has the capacity `room`.
+///
+/// A copy of an object must have the same capacity.
 fn has_room(rt: &impl Abort, value: &IValue, room: usize) {
     match value.destructure_ref() {
         DestructuredRef::Array(array) => assert!(*rt; array.capacity() == room),
@@ -151,7 +160,9 @@ fn has_room(rt: &impl Abort, value: &IValue, room: usize) {
     }
 }
 
-/// Asserts which strings a text adds to a cache, and that its value does not depend on the cache.
+/// Asserts that reading `text` adds exactly `strings` to a cache.
+///
+/// If the text is read with a cleared cache, the value must be equal.
 fn adds(rt: &impl Abort, alloc: Global, text: &str, strings: &[&str]) {
     let mut cache = used_cache(rt, alloc);
     let before = granted!(rt; JsonError::Memory; from_json(alloc, &mut cache, text));
@@ -169,7 +180,7 @@ fn adds(rt: &impl Abort, alloc: Global, text: &str, strings: &[&str]) {
     drop(after);
 }
 
-/// Asserts what is known of a text, also from devices that move `piece` bytes a call.
+/// Asserts the property `is` of `text`. Devices move `piece` bytes per call.
 fn holds(rt: &impl Abort, alloc: Global, text: &str, is: Is, piece: usize) {
     match is {
         Is::As(want) => is_rewritten(rt, alloc, text, want, piece),
@@ -216,7 +227,7 @@ fn repeated_parts(rt: HostRuntime) {
     repeated_are_rewritten(&rt, rt.alloc(), &REPEATED, 3);
 }
 
-/// Asserts that reading a text fails with this error.
+/// Asserts that reading `text` fails with the error `want`.
 fn fails(rt: &impl Abort, alloc: Global, text: &str, want: JsonError) {
     let mut found = from_json(alloc, &mut empty_cache(alloc), text).err();
     if found == Some(JsonError::Memory) {
@@ -225,7 +236,8 @@ fn fails(rt: &impl Abort, alloc: Global, text: &str, want: JsonError) {
     assert!(*rt; found == Some(want), "{}", text.get(..40).unwrap_or(text));
 }
 
-/// Asserts that reading a text fails with this error, also from devices that move `piece` bytes a call.
+/// Asserts that reading `text` fails with `want`, also from devices that move `piece` bytes per
+/// call.
 fn fails_by(rt: &impl Abort, alloc: Global, text: &str, want: JsonError, piece: usize) {
     fails(rt, alloc, text, want);
     let (text, devices) = (text.as_bytes(), (piece, text.len() + 1, 1));
@@ -233,7 +245,7 @@ fn fails_by(rt: &impl Abort, alloc: Global, text: &str, want: JsonError, piece: 
     follows(rt, alloc, &mut empty_cache(alloc), text, devices, outcome);
 }
 
-/// Returns a text without its mark, and the error at the mark.
+/// Returns the text without its mark, which `FAULTS` explains, and the error at the mark.
 fn unmarked(rt: &impl Abort, alloc: Global, marked: &str) -> (String, JsonError) {
     let is_range = marked.contains('~');
     let mark = if is_range { '~' } else { '|' };
@@ -247,7 +259,7 @@ fn unmarked(rt: &impl Abort, alloc: Global, marked: &str) -> (String, JsonError)
     }
 }
 
-/// Asserts the errors of marked texts from devices that move `piece` bytes a call.
+/// Asserts the errors of all texts in `FAULTS`, with devices that move `piece` bytes per call.
 fn marked_fail_by(rt: &impl Abort, alloc: Global, piece: usize) {
     for marked in &FAULTS {
         let (text, error) = unmarked(rt, alloc, marked);
@@ -262,7 +274,7 @@ fn deep_fail_by(rt: &impl Abort, alloc: Global, piece: usize) {
     }
 }
 
-/// Asserts the errors of all texts that are rejected.
+/// Asserts the errors of all texts in `FAULTS` and `DEEP`.
 pub fn all_fail_by(rt: &impl Abort, alloc: Global, piece: usize) {
     marked_fail_by(rt, alloc, piece);
     deep_fail_by(rt, alloc, piece);
@@ -273,7 +285,7 @@ fn each_kind_of_error(rt: HostRuntime) {
     all_fail_by(&rt, rt.alloc(), 3);
 }
 
-/// The escape that is written for each control character.
+/// The escape that is written for each control character, at the index of its code.
 static ESCAPES: [&str; 32] = [
     "\\u0000", "\\u0001", "\\u0002", "\\u0003", "\\u0004", "\\u0005", "\\u0006", "\\u0007", "\\b",
     "\\t", "\\n", "\\u000b", "\\f", "\\r", "\\u000e", "\\u000f", "\\u0010", "\\u0011", "\\u0012",
@@ -281,7 +293,7 @@ static ESCAPES: [&str; 32] = [
     "\\u001b", "\\u001c", "\\u001d", "\\u001e", "\\u001f",
 ];
 
-/// Each byte below 20 hexadecimal is rejected unescaped, and written as an escape.
+/// Checks that each control character below U+0020 is rejected unescaped, and written as an escape.
 #[test]
 fn control_characters(rt: HostRuntime) {
     let alloc = rt.alloc();
@@ -296,7 +308,8 @@ fn control_characters(rt: HostRuntime) {
     }
 }
 
-/// Appends a comma, a quoted string or a key to a text, and returns `true` if that succeeded.
+/// Appends the comma, quoted string or key that `part` selects, and returns `true` if that
+/// succeeded.
 fn push_part(text: &mut String, part: char) -> bool {
     match part {
         ',' => push_separator(text, false).is_ok(),
@@ -305,21 +318,21 @@ fn push_part(text: &mut String, part: char) -> bool {
     }
 }
 
-/// Parts, and the text after each is appended to `true`.
+/// Parts for `push_part`, each with the text that results from appending it to `true`.
 static PARTS: [(char, &str); 3] = [
     (',', "true,"),
     ('"', r#"true"0123456789\n""#),
     (':', r#"true,"0123456789\n":"#),
 ];
 
-/// Returns the text `true` without spare capacity.
+/// Returns the string `true` without spare capacity.
 fn full_text(rt: &impl Abort, alloc: Global) -> String {
     let mut text = granted!(rt; String::with_capacity(alloc, 4));
     text.push_str("true").expect(rt, "room");
     text
 }
 
-/// After a failed allocation, a beginning of the part was appended.
+/// Checks that a part is appended, or only a proper prefix of it if an allocation fails.
 #[test]
 fn parts_are_appended(rt: HostRuntime) {
     for &(part, want) in &PARTS {

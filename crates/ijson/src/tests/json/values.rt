@@ -1,4 +1,6 @@
-//! Whole values: their order, equality, hashes and copies, and a caller that knows a map of values by the contracts alone.
+//! Tests of the order, equality, hashes and copies of values.
+//!
+//! The contract of one caller states that a map of values finds a value by its copy.
 ghost use Rattle.std.specs.Prelude.{◌≡◌, true, IfOk};
 
 use super::{numbered, repeated};
@@ -13,7 +15,8 @@ use std::collections::HashMap;
 use std::hash::{BuildHasherDefault, FoldHasher};
 use std::process::Abort;
 
-/// Two texts, and the sign between their values, which is `?` if they are not ordered.
+/// JSON texts of two values, and the sign between them: `<`, `=`, `>`, or `?` if they are not
+/// ordered.
 #[rattlefmt::skip]
 static ORDERED: [(&str, char, &str); 31] = [
     ("null", '<', "false"), ("false", '<', "true"), ("false", '<', "0"), ("true", '<', "0"), ("0", '<', "\"\""),
@@ -58,14 +61,14 @@ fn values_are_ordered(rt: HostRuntime) {
     }
 }
 
-/// Values of all kinds, some of them equal to others.
+/// An array of values of all kinds, some of which are equal.
 const ALL_KINDS: &str =
     "[null,true,false,0,0.0,1,1.0,10,10.0,-1,0.5,0.1,1e22,18446744073709551616,123456789012345678901234567890.5,\
     \"\",\"a\",\"seven77\",\"eight888\",\"interned_string_a\",[],[[]],[null],[0],[0.0],[1,2],[2,1],[1,2,3],[{}],[[[]]],{},{\"a\":1},\
     {\"a\":1.0},{\"a\":2},{\"b\":1},{\"a\":1,\"b\":[1]},{\"b\":[1],\"a\":1},{\"b\":[1],\"c\":1},{\"longlonglong\":{\"a\":null}},\
     {\"a\":{\"a\":{}}}]";
 
-/// Asserts that a copy of a value is equal to it and has this text.
+/// Asserts that a copy of `value` is equal to `value` and is written as `want`.
 fn is_copied(rt: &impl Abort, alloc: Global, value: &IValue, want: &str) {
     let copy = granted!(rt; value.clone());
     assert!(*rt; copy == *value);
@@ -73,7 +76,7 @@ fn is_copied(rt: &impl Abort, alloc: Global, value: &IValue, want: &str) {
     drop(copy);
 }
 
-/// Asserts that a value agrees with each of these.
+/// Calls `agree` for `left` and each of `values`.
 fn agrees_with_each(rt: &impl Abort, left: &IValue, values: &[IValue]) {
     for right in values {
         agree(rt, left, right);
@@ -94,7 +97,8 @@ fn each_pair_of_values_agrees(rt: HostRuntime) {
     drop(all);
 }
 
-/// A list of 70,000 letters, 70,000 elements, and 30,000 entries.
+/// Checks a copy of a value with a string of 70,000 letters, an array of 70,000 elements and an
+/// object of 30,000 entries.
 #[test]
 fn a_large_value_is_copied(rt: HostRuntime) {
     let lists = repeated(&rt, rt.alloc(), &("a", "a", 69_999, "\",[0", ",0", "],"));
@@ -141,7 +145,7 @@ fn nested(rt: &impl Abort, alloc: Global, depth: usize) -> IValue {
     value
 }
 
-/// Asserts that a value of this depth agrees with its copy.
+/// Asserts that null inside `depth` nested arrays is equal to its copy, also by order and by hash.
 pub fn is_copied_deep(rt: &impl Abort, alloc: Global, depth: usize) {
     let value = nested(rt, alloc, depth);
     let copy = granted!(rt; value.clone());
@@ -156,7 +160,7 @@ fn a_hundred_levels(rt: HostRuntime) {
     is_copied_deep(&rt, rt.alloc(), 100);
 }
 
-/// Finds a value in a map by a copy.
+/// Returns `true`, since a map with the key `value` contains a copy of `value`.
 fn found_by_copy(alloc: Global, value: IValue) -> Result<bool, AllocError>
     ensures { IfOk result (λ found. found ≡ true) }
 {
@@ -166,7 +170,7 @@ fn found_by_copy(alloc: Global, value: IValue) -> Result<bool, AllocError>
     Ok(map.contains_key(&copy))
 }
 
-/// Returns `true` if a value is a key of a map of one other.
+/// Returns `true` if a map whose only key is `key` contains `value`.
 fn is_key(alloc: Global, key: IValue, value: &IValue) -> Result<bool, AllocError> {
     let mut map = HashMap::with_hasher(alloc, BuildHasherDefault::<FoldHasher>::new());
     map.insert(key, 1u8)?;

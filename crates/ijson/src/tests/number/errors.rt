@@ -1,4 +1,4 @@
-//! Rejected texts, leading numbers, and the messages of errors.
+//! Tests of rejected texts, of numbers at the start of a text, and of error messages.
 
 use super::spelled;
 use crate::number::{INumber, Looks, ParseNumberError, ReadNumberError};
@@ -7,7 +7,8 @@ use std::alloc::{AllocError, Global};
 use std::error::Error;
 use std::process::Abort;
 
-/// Texts that spell no number, or one out of range, and what `read_front` returns for each: the length read, or the error.
+/// Texts that are not a number in range, each with the result of `read_front`: the length read, or
+/// the error.
 #[rattlefmt::skip]
 static REJECTED: [(&str, Result<usize, ReadNumberError>); 29] = [
     ("", Err(ReadNumberError::Syntax { at: 0 })), ("+1", Err(ReadNumberError::Syntax { at: 0 })),
@@ -25,7 +26,7 @@ static REJECTED: [(&str, Result<usize, ReadNumberError>); 29] = [
     ("1e99999999999999999999999999999999999999999999.5", Err(ReadNumberError::OutOfRange)),
 ];
 
-/// Asserts the message and the debug output of an error.
+/// Asserts that `want` is the message of `error`, followed by a colon and its debug output.
 fn tells(rt: &impl Abort, alloc: Global, error: &impl Error, want: &str) {
     let text = granted!(rt; format!(in alloc; "{error}: {error:?}"));
     assert!(*rt; text.as_str() == want);
@@ -66,7 +67,7 @@ fn rejected_texts(rt: HostRuntime) {
     is_shown(&rt, alloc, &looks, "Looks { seen: 42 }");
 }
 
-/// Texts, and the number of leading bytes that spell a number.
+/// Texts, each with the length in bytes of the number at its start.
 #[rattlefmt::skip]
 static FRONTS: [(&str, usize); 13] = [
     ("12", 2), ("1234567890123456789,", 19), ("-0.0012345678901234567,", 22), ("-123.4567890123450, 2", 18),
@@ -74,7 +75,8 @@ static FRONTS: [(&str, usize); 13] = [
     ("1.1234567890123456789", 21), ("12345678901234567890.5", 22), ("1e12345", 7), ("01", 1),
 ];
 
-/// Asserts the length of the leading number of a text, and that its bytes alone spell the number.
+/// Asserts that the number at the start of `text` has `want` bytes, and that these bytes alone
+/// denote the same number.
 fn has_front(rt: &impl Abort, alloc: Global, text: &str, want: usize) {
     let (number, length) = granted!(rt; ReadNumberError::Memory; INumber::read_front(alloc, text));
     let whole = spelled(rt, alloc, text.get(..length).expect(rt, text));

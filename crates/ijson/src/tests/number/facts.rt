@@ -1,4 +1,4 @@
-//! Facts of numbers by the texts that spell them: written texts, significands, representations, values and words.
+//! Tests of facts of numbers: written texts, significands, representations, values and words.
 
 use super::Fact::{I64, Integer, List, NoInteger, Packed, Same, Shown, Stripped, Text, U64, Words};
 use super::{Fact, is_integer, is_known};
@@ -10,14 +10,15 @@ const THIRTY: &str = "123456789012345678901234567890";
 
 const TENTH: &str = "0.100000000000000000000000000000000000000000000000000";
 
-/// Asserts the fact of each row.
+/// Asserts the fact of each of `rows`.
 fn are_known(rt: &impl Abort, alloc: Global, rows: &[(&str, Fact<'_>)]) {
     for &(text, fact) in rows {
         is_known(rt, alloc, text, &[fact]);
     }
 }
 
-/// What numbers are written as, and their canonical significands.
+/// Decimal texts, each with the text that is written for its number, or with its canonical
+/// significand.
 #[rattlefmt::skip]
 static TEXTS: [(&str, Fact<'static>); 48] = [
     ("-0", Text("0")), ("-0.0", Text("0.0")), ("1.50", Text("1.5")), ("-1.50", Text("-1.5")),
@@ -48,7 +49,9 @@ fn texts(rt: HostRuntime) {
     are_known(&rt, rt.alloc(), &TEXTS);
 }
 
-/// Most of these are one below, at and one above a boundary of the representations.
+/// Decimal texts, each with the representation of its number.
+///
+/// Most of the numbers are at, just below or just above a boundary between representations.
 #[rattlefmt::skip]
 static FORMS: [(&str, Fact<'static>); 59] = [
     ("0", Packed(0, 0)), ("-0", Packed(0, 0)), ("1", Packed(1, 0)), ("-1", Packed(-1, 0)), ("0.0", Packed(0, 0)),
@@ -100,7 +103,8 @@ const WORDS_OF_THIRTY: [u64; 34] = [
     5, 6, 7, 8, 9, 1,
 ];
 
-/// Debug output of representations, words and values.
+/// Decimal texts, each with the words of its number, its value, or the debug output of its
+/// representation.
 #[rattlefmt::skip]
 static VALUES: [(&str, Fact<'static>); 29] = [
     ("-2.5", Shown("Packed { mantissa: -25, exponent: -1, point: true }")),
@@ -125,7 +129,7 @@ fn values(rt: HostRuntime) {
     are_known(&rt, rt.alloc(), &VALUES);
 }
 
-/// Asserts the value of a number in each integer type.
+/// Asserts that `number` converts to `want` in each integer type that contains `want`.
 fn has_value(rt: &impl Abort, alloc: Global, number: INumber, want: i128) {
     counted!(alloc; is_integer(rt, &number, Some(want)));
     drop(number);

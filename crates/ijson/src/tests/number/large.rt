@@ -1,4 +1,4 @@
-//! Tests with more calls or longer numbers than can be run with each allocation failing.
+//! Tests with too many calls or too long numbers to be run with each allocation failing in turn.
 
 use super::lengths::{POWERS, keep_long, keeps_each};
 

@@ -1,14 +1,16 @@
-//! Numbers of many lengths. No clause says that a call succeeds if memory is available.
+//! Tests of numbers of many lengths.
+//!
+//! No clause states that a call succeeds if memory is available.
 
 use super::Fact::{Stripped, Text};
 use super::is_known;
 use std::alloc::{AllocError, Global};
 use std::process::Abort;
 
-/// Digits other than 0. Repeated, no two adjacent runs of twenty are the same.
+/// The digits other than 0. If they are repeated, two adjacent runs of twenty digits always differ.
 const DIGITS: &str = "123456789";
 
-/// Returns the first `count` characters of a text that repeats `letters`.
+/// Returns a string of `count` characters that repeats `letters`.
 fn repeated(rt: &impl Abort, alloc: Global, letters: &str, count: usize) -> String {
     let mut text = granted!(rt; String::with_capacity(alloc, count));
     for letter in letters.chars().cycle().take(count) {
@@ -17,12 +19,14 @@ fn repeated(rt: &impl Abort, alloc: Global, letters: &str, count: usize) -> Stri
     text
 }
 
-/// Asserts what a number is written as, its canonical significand, and its exponent.
+/// Asserts that the number `text` is written as `want`, and has this canonical significand and
+/// exponent.
 fn keeps(rt: &impl Abort, alloc: Global, text: &str, want: &str, digits: &str, exponent: i32) {
     is_known(rt, alloc, text, &[Text(want), Stripped(digits, exponent)]);
 }
 
-/// Digits with the point at each place between them, and with up to `most` zeros between the point and them.
+/// Calls `keeps` for `digits` with a point before each digit, and with up to `most` zeros after the
+/// point.
 fn keeps_each_scale(rt: &impl Abort, alloc: Global, sign: &str, digits: &str, most: usize) {
     for scale in 1..=digits.len().saturating_add(most) {
         let zeros = scale.saturating_add(1).saturating_sub(digits.len());
@@ -37,7 +41,8 @@ fn keeps_each_scale(rt: &impl Abort, alloc: Global, sign: &str, digits: &str, mo
     }
 }
 
-/// Digits with up to `most` zeros after them: without a point, with one, and with an exponent in place of the zeros.
+/// Calls `keeps` for `digits` followed by up to `most` zeros: without a point, with a point, and
+/// with an exponent instead of the zeros.
 fn keeps_each_zero(rt: &impl Abort, alloc: Global, sign: &str, digits: &str, most: usize) {
     for count in 0..=most {
         let exponent = i32::try_from(count).unwrap_or(0);
@@ -53,13 +58,14 @@ fn keeps_each_zero(rt: &impl Abort, alloc: Global, sign: &str, digits: &str, mos
 
 const FAR: i32 = 500_000_000;
 
-/// Exponents of numbers that are written with one.
+/// Exponents of numbers that are written with an exponent.
 pub static POWERS: [i32; 21] = [
     -FAR, -32789, -32769, -32768, -32767, -101, -100, -99, -65, -52, -11, -10, -9, 41, 99, 100,
     101, 32766, 32767, 32768, FAR,
 ];
 
-/// Digits with the point after the first of them, and each of these exponents.
+/// Calls `keeps` for `digits` with a point after the first digit, and with each exponent of
+/// `powers`.
 fn keeps_each_power(rt: &impl Abort, alloc: Global, sign: &str, digits: &str, powers: &[i32]) {
     let first = digits.get(..1).expect(rt, "a digit");
     let rest = digits.get(1..).expect(rt, "the other digits");
@@ -71,7 +77,8 @@ fn keeps_each_power(rt: &impl Abort, alloc: Global, sign: &str, digits: &str, po
     }
 }
 
-/// Asserts what numbers with `count` digits are written as, with up to `zeros` zeros or with these exponents.
+/// Calls `keeps` for numbers of `count` digits, with up to `zeros` zeros, and with each exponent of
+/// `powers`.
 pub fn keeps_each(rt: &impl Abort, alloc: Global, count: usize, zeros: usize, powers: &[i32]) {
     let digits = repeated(rt, alloc, DIGITS, count);
     for &sign in &["", "-"] {
@@ -86,10 +93,11 @@ fn digits(rt: HostRuntime) {
     keeps_each(&rt, rt.alloc(), 2, 1, &[41]);
 }
 
-/// What is before the digits of a number, their count, the count of zeros after them, and the exponent.
+/// The text before the digits of a number, the count of digits, the count of zeros after them, and
+/// the exponent.
 pub type Long = (&'static str, usize, usize, i32);
 
-/// Asserts what numbers of many digits are written as.
+/// Asserts that the numbers of `rows`, which have many digits, are written as they are read.
 pub fn keep_long(rt: &impl Abort, alloc: Global, rows: &[Long]) {
     for &(before, count, zeros, exponent) in rows {
         let digits = repeated(rt, alloc, DIGITS, count);

@@ -1,4 +1,4 @@
-//! The order and equality of numbers, and the digits that are read for them.
+//! Tests of the order and equality of numbers, and of how many digits a comparison reads.
 
 use super::spelled;
 use crate::number::{DigitRow, INumber, Looks, compare};
@@ -15,7 +15,7 @@ static ASCENDING: [&str; 18] = [
     "36028797018963968", "9223372036854775808", "18446744073709551616", "1e1073741824",
 ];
 
-/// Two texts, the order of their numbers, and the count of digits read for it.
+/// Two decimal texts, the order of their numbers, and the number of digits that a comparison reads.
 #[rattlefmt::skip]
 static PAIRS: [(&str, &str, Ordering, u128); 30] = [
     ("-0", "-0.0", Equal, 0), ("0", "0.0", Equal, 0), ("1", "-1", Greater, 0), ("2", "20e-1", Equal, 2),
@@ -33,7 +33,7 @@ static PAIRS: [(&str, &str, Ordering, u128); 30] = [
     ("123456789012345678901234567890.5", "1234567890123456789012345678905e-1", Equal, 62),
 ];
 
-/// Asserts the order of two numbers by each call that compares them.
+/// Asserts that each call that compares `a` with `b` reports the order `want`.
 pub fn compares(rt: &impl Abort, a: &INumber, b: &INumber, want: Ordering) {
     assert!(*rt; a.cmp(b) == want && (a < b) == (want == Less));
     assert!(*rt; (a == b) == (want == Equal) && (a != b) == (want != Equal));
@@ -45,13 +45,13 @@ pub fn compares(rt: &impl Abort, a: &INumber, b: &INumber, want: Ordering) {
     }
 }
 
-/// Asserts the order of the numbers of two texts; returns the count of digits read for it.
+/// Asserts the order of the numbers `a` and `b`, and returns how many digits a comparison reads.
 fn reads(rt: &impl Abort, alloc: Global, a: &str, b: &str, want: Ordering) -> u128 {
     let (a, b) = (spelled(rt, alloc, a), spelled(rt, alloc, b));
     counted!(alloc; compares(rt, &a, &b, want));
     counted!(alloc; compares(rt, &b, &a, want.reverse()));
     assert!(*rt; counted!(alloc; hash_of(&a) == hash_of(&b)) == (want == Equal));
-    // The counts show that the inspections fit.
+    // This bound shows the prover that the number of inspections is in range.
     assert!(*rt; a.count() < 40);
     let mut looks = Looks::new();
     assert!(*rt; counted!(alloc; compare(&a, &b, &mut looks)) == want);
@@ -67,7 +67,7 @@ fn pairs(rt: HostRuntime) {
     }
 }
 
-/// Asserts the order of the number at `place` and of those that are not before it.
+/// Asserts the order of the number at `place` and each number from `place` on.
 fn is_at(rt: &impl Abort, alloc: Global, place: usize, text: &str) {
     for (other_place, other) in ASCENDING.iter().enumerate().skip(place) {
         let _ = reads(rt, alloc, text, other, place.cmp(&other_place));

@@ -1,4 +1,4 @@
-//! Callers that know the entries of an object by the contracts alone, and the calls of a closure.
+//! Tests of callers whose contracts state the entries of an object, and of the closure of `retain`.
 ghost use Rattle.std.specs.Prelude.{◌≡◌, ◌≢◌, [], ◌∷◌, true, false, OnOk};
 ghost use Rattle.std.specs.Option.{unwrap_or};
 ghost use Rattle.ijson_table.specs.Store.{lookup, put};
@@ -12,7 +12,7 @@ use crate::tests::support::{empty_cache, is_shown, set};
 use crate::value::IValue;
 use std::process::Abort;
 
-/// Puts false as the value of a missing key.
+/// Inserts `key` with the value false, unless `key` exists.
 fn put_false(object: &mut IObject, key: &IString) -> Result<(), ReserveError>
     ensures { OnOk result (object.new.pairs ≡ put object.old.pairs key.now
         (unwrap_or (lookup key.now object.old.pairs) (boolean_value false))) }
@@ -21,7 +21,7 @@ fn put_false(object: &mut IObject, key: &IString) -> Result<(), ReserveError>
     Ok(())
 }
 
-/// Puts two entries, and writes to the second value.
+/// Inserts two keys with the value false, and sets the value of the second key to true.
 fn put_two(object: &mut IObject, first: &IString, second: &IString) -> Result<(), ReserveError>
     requires empty { object.old.pairs ≡ [] }
     requires apart { first.now ≢ second.now }
@@ -34,7 +34,9 @@ fn put_two(object: &mut IObject, first: &IString, second: &IString) -> Result<()
     Ok(())
 }
 
-/// Keeps the true one of two entries; returns `true` if an iterator yields one entry and then none.
+/// Retains the entries with the value true.
+///
+/// Returns `true` twice: an iterator over the object yields an entry, and then ends.
 fn keep_true(object: &mut IObject, first: &IString, second: &IString) -> (bool, bool)
     requires { object.old.pairs ≡ (first.now, boolean_value false) ∷ (second.now, boolean_value true) ∷ [] }
     ensures list { object.new.pairs ≡ (second.now, boolean_value true) ∷ [] }
@@ -45,7 +47,8 @@ fn keep_true(object: &mut IObject, first: &IString, second: &IString) -> (bool, 
     (pairs.next().is_some(), pairs.next().is_none())
 }
 
-// The strings are not created by `key`: `put_two` requires two that differ, and no contract describes the result of `key`.
+// `put_two` requires two different strings. No contract describes the result of `key`, so the
+// strings are interned here.
 #[test]
 fn two_are_put_and_one_is_kept(rt: HostRuntime) {
     let alloc = rt.alloc();
@@ -62,7 +65,9 @@ fn two_are_put_and_one_is_kept(rt: HostRuntime) {
     drop(second);
 }
 
-/// Visits the keys 0 to 5 once, keeps the even ones, and writes ten times the number to each.
+/// Retains the entries with even numbers, and multiplies each value by ten.
+///
+/// The closure must be called exactly once for each of the six entries.
 fn retains(rt: &impl Abort, object: &mut IObject) {
     let mut asked = 7usize;
     object.retain(|_key, value| {

@@ -1,4 +1,4 @@
-//! Objects from lists, iterators and maps.
+//! Tests of objects that are created from lists, iterators and maps.
 
 use super::{Pair, holds, is_back, is_pair, pair_at, pair_of, spelled};
 use crate::object::{IObject, RefusedPairs};
@@ -12,19 +12,23 @@ use std::alloc::{AllocError, Global};
 use std::collections::{BTreeMap, HashMap};
 use std::process::Abort;
 
-/// What an object is created from.
+/// The source from which an object is created.
 #[derive(Clone, Copy)]
 pub enum Way {
     Pairs,
     PairsOrBack,
     Iterator,
-    /// Maps, by how they treat their keys.
+    /// A `HashMap`.
     Hashes,
+    /// A `BTreeMap`.
     Sorts,
+    /// An `IndexMap`.
     Keeps,
 }
 
-/// The source of an object, its entries, those of the object, and the capacity. No order is known of a hash map.
+/// Sources, each with its entries, and the entries and the capacity of the created object.
+///
+/// The order of entries from a `HashMap` is not specified.
 #[rattlefmt::skip]
 static CREATED: [(Way, &str, &str, usize); 12] = [
     (Pairs, "a1b2a3", "a3b2", 3), (Pairs, "", "", 0), (Pairs, "a1b2c3d4e5a1", "a1b2c3d4e5", 6),
@@ -33,7 +37,7 @@ static CREATED: [(Way, &str, &str, usize); 12] = [
     (Hashes, "b1a2E3", "a2b1E3", 3), (Sorts, "b1a2E3", "a2b1E3", 3), (Keeps, "b1a2E3", "b1a2E3", 3),
 ];
 
-/// Returns a list of these entries.
+/// Returns a list of the entries that `letters` denote.
 pub fn listed(rt: &impl Abort, alloc: Global, letters: &str) -> Vec<Pair> {
     let mut pairs = granted!(rt; Vec::with_capacity(alloc, letters.len() / 2));
     for index in 0..letters.len() / 2 {
@@ -44,7 +48,9 @@ pub fn listed(rt: &impl Abort, alloc: Global, letters: &str) -> Vec<Pair> {
     pairs
 }
 
-/// Returns the object of a list, which a failed allocation returns.
+/// Returns the object that `try_from_pairs` creates from a list.
+///
+/// If an allocation fails, the call must return the list, and is repeated with the list.
 fn of_list(rt: &impl Abort, alloc: Global, letters: &str) -> IObject {
     match IObject::try_from_pairs(alloc, listed(rt, alloc, letters)) {
         Ok(object) => object,
@@ -59,7 +65,9 @@ fn of_list(rt: &impl Abort, alloc: Global, letters: &str) -> IObject {
     }
 }
 
-/// Returns the object of an iterator, for which the first or the fifth entry may be returned instead.
+/// Returns the object that `from_iter` creates from an iterator.
+///
+/// If an allocation fails, the call must return the first or the fifth entry, and is repeated.
 fn of_iterator(rt: &impl Abort, alloc: Global, letters: &str) -> IObject {
     let pairs = spelled(rt, alloc, (letters, letters.len() / 2));
     match IObject::from_iter(alloc, pairs) {
@@ -74,7 +82,8 @@ fn of_iterator(rt: &impl Abort, alloc: Global, letters: &str) -> IObject {
     }
 }
 
-/// Returns the object of a map of the entries of another object.
+/// Returns the object created from a map of the entries of `object`; `way` selects the type of the
+/// map.
 pub fn through_map(alloc: Global, object: IObject, way: Way) -> Result<IObject, ReserveError> {
     let pairs = object.into_iter();
     match way {
@@ -93,7 +102,7 @@ pub fn through_map(alloc: Global, object: IObject, way: Way) -> Result<IObject, 
     }
 }
 
-/// Creates an object.
+/// Returns the object that `way` creates from the entries that `letters` denote.
 fn created(rt: &impl Abort, alloc: Global, way: Way, letters: &str) -> IObject {
     match way {
         Pairs => {

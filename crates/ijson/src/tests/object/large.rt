@@ -1,4 +1,4 @@
-//! Many entries.
+//! Tests of objects with many entries.
 
 use super::sizes::{changes_size, creates, each_size};
 

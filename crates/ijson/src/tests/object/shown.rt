@@ -1,4 +1,4 @@
-//! The debug output of objects, their entries and iterators, and the messages of errors.
+//! Tests of the debug output of objects, their entries and iterators, and of error messages.
 
 use super::created::listed;
 use super::spelled;
@@ -9,7 +9,7 @@ use std::alloc::{AllocError, Global};
 use std::fmt::{Debug, Display};
 use std::process::Abort;
 
-/// The debug output of objects.
+/// Letters of objects, each with the debug output of its object.
 static OBJECTS: [(&str, &str); 4] = [
     ("a0b1cp", r#"{"a": 0, "b": 1, "c": 2.0}"#),
     ("J1F2K3", r#"{"id": 1, "interned_string_a": 2, "no": 3}"#),
@@ -17,7 +17,7 @@ static OBJECTS: [(&str, &str); 4] = [
     ("c0H1b2", r#"{"c": 0, "a \"long\" key\n": 1, "b": 2}"#),
 ];
 
-/// The debug output of the entries of the last of three keys, and of a missing key.
+/// Two keys, each with the debug output of its `Entry`: the last of three keys, and a missing key.
 static ENTRIES: [(&str, &str); 2] = [
     ("b", r#"Occupied(OccupiedEntry { key: "b", value: 2 })"#),
     (
@@ -26,14 +26,17 @@ static ENTRIES: [(&str, &str); 2] = [
     ),
 ];
 
-/// The debug output of three entries, whose keys are not sorted, and of the iterators over the last two.
+/// The debug output of iterators over three entries, whose keys are not sorted.
+///
+/// The iterators are `iter` before and after its first entry, and `into_iter` after its first
+/// entry.
 static ITERATED: [&str; 3] = [
     r#"[("c", 0), ("a \"long\" key\n", 1), ("b", 2)]"#,
     r#"[("a \"long\" key\n", 1), ("b", 2)]"#,
     r#"IntoIter([("a \"long\" key\n", 1), ("b", 2)])"#,
 ];
 
-/// Asserts the debug output of iterators that yield the first entry.
+/// Asserts the debug output of iterators over `object`, before or after they yield the first entry.
 fn iterators_are_shown(rt: &impl Abort, alloc: Global, object: IObject) {
     let mut pairs = object.iter();
     is_shown(rt, alloc, &pairs, ITERATED[0]);
@@ -45,7 +48,7 @@ fn iterators_are_shown(rt: &impl Abort, alloc: Global, object: IObject) {
     drop(pairs);
 }
 
-/// Asserts the debug output of the entry of a key.
+/// Asserts that the `Entry` of the key `name` has the debug output `want`.
 fn entry_is_shown(rt: &impl Abort, alloc: Global, object: &mut IObject, name: &str, want: &str) {
     let copy = key(rt, alloc, name);
     let entry = object.entry_or_clone(&copy).expect(rt, "room");
@@ -69,14 +72,15 @@ fn debug_output(rt: HostRuntime) {
     iterators_are_shown(&rt, alloc, object);
 }
 
-/// Asserts the message and the debug output of an error.
+/// Asserts that `want` is the message of `error`, followed by `|` and its debug output.
 fn tells<E: Debug + Display + Drop>(rt: &impl Abort, alloc: Global, error: E, want: &str) {
     let told = granted!(rt; format!(in alloc; "{error}|{error:?}"));
     assert!(*rt; told.as_str() == want, "{told} is not {want}");
     drop(error);
 }
 
-/// Reasons, and the message and the debug output of a list that is returned for each.
+/// Reasons, each with the message and the debug output of the error that returns a list for this
+/// reason.
 static RETURNED: [(ReserveError, &str); 2] = [
     (
         ReserveError::Memory,

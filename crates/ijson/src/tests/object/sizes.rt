@@ -1,4 +1,6 @@
-//! Objects by their sizes: no clause says that a call succeeds if memory is available, so each small number of entries is tried.
+//! Tests of objects of each small size.
+//!
+//! No clause states that a call succeeds if memory is available.
 
 use super::Pair;
 use super::created::{Way, through_map};
@@ -10,7 +12,7 @@ use crate::value::IValue;
 use std::alloc::{AllocError, Global};
 use std::process::Abort;
 
-/// Returns the key of a number, by its digits.
+/// Returns a key that consists of the digits of `number`.
 fn numbered(rt: &impl Abort, alloc: Global, number: usize) -> IString {
     let digits = granted!(rt; format!(in alloc; "{number}"));
     let text = key(rt, alloc, &digits);
@@ -18,7 +20,7 @@ fn numbered(rt: &impl Abort, alloc: Global, number: usize) -> IString {
     text
 }
 
-/// Returns the entries of the numbers below `count`, in a list with no spare capacity.
+/// Returns the entries of the numbers below `count`, in a list without spare capacity.
 fn pairs_of(rt: &impl Abort, alloc: Global, count: usize) -> Vec<Pair> {
     let mut pairs = granted!(rt; Vec::with_capacity(alloc, count));
     for number in 0..count {
@@ -30,8 +32,9 @@ fn pairs_of(rt: &impl Abort, alloc: Global, count: usize) -> Vec<Pair> {
 
 /// Returns the object of the entries of the numbers below `count`.
 ///
-/// So few of up to 100 keys collide that no table is built by sorting. The list becomes that of the object, which allocates a block, and
-/// another one for the slots of more than 8 entries.
+/// The object reuses the list. Creating it allocates a block if there are entries, and another
+/// block for the slots of more than 8 entries. Of up to 100 keys, so few collide that the slots are
+/// not filled by sorting.
 fn object_of(rt: &impl Abort, alloc: Global, count: usize) -> IObject {
     let pairs = pairs_of(rt, alloc, count);
     let object = match count {
@@ -49,7 +52,10 @@ fn object_of(rt: &impl Abort, alloc: Global, count: usize) -> IObject {
     }
 }
 
-/// Asserts that an object has the entries of the numbers below `count` in order and finds each, and its capacity.
+/// Asserts that `object` has the entries of the numbers below `count` in order, and the capacity
+/// `capacity`.
+///
+/// A lookup must find each entry at its index.
 fn is_numbered(rt: &impl Abort, object: &IObject, count: usize, capacity: usize) {
     assert!(*rt; object.len() == count && object.capacity() == capacity);
     for (number, (key, value)) in object.iter().enumerate() {
@@ -57,7 +63,9 @@ fn is_numbered(rt: &impl Abort, object: &IObject, count: usize, capacity: usize)
     }
 }
 
-/// Reads, writes, removes and inserts the entry of an index by its key, which does not allocate.
+/// Reads, writes, removes and inserts the entry at `index`, by its key.
+///
+/// The calls must not allocate.
 fn asks(rt: &impl Abort, alloc: Global, object: &mut IObject, index: usize) {
     let key = numbered(rt, alloc, index);
     begin_count(alloc);
@@ -76,7 +84,10 @@ fn asks(rt: &impl Abort, alloc: Global, object: &mut IObject, index: usize) {
     drop(key);
 }
 
-/// Builds an object of `count` entries, copies it, grows it for one more and shrinks it.
+/// Creates an object of `count` entries, copies it, reserves capacity for another entry, and
+/// shrinks it.
+///
+/// The reserved capacity must be `grown`.
 pub fn changes_size(rt: &impl Abort, alloc: Global, count: usize, grown: usize) {
     let mut object = object_of(rt, alloc, count);
     is_numbered(rt, &object, count, count);
@@ -97,7 +108,7 @@ pub fn changes_size(rt: &impl Abort, alloc: Global, count: usize, grown: usize) 
     counted!(alloc; drop(pairs));
 }
 
-/// Changes objects of each of these sizes.
+/// Calls `changes_size` for each size below `most`.
 pub fn each_size(rt: &impl Abort, alloc: Global, most: usize) {
     changes_size(rt, alloc, 0, 4);
     changes_size(rt, alloc, 1, 4);
@@ -106,7 +117,9 @@ pub fn each_size(rt: &impl Abort, alloc: Global, most: usize) {
     }
 }
 
-/// Creates objects of `count` entries by the list that an error returns, and through each map.
+/// Creates objects of `count` entries by `try_from_pairs`, and from each kind of map.
+///
+/// After an error, `try_from_pairs` is called again with the list that the error contains.
 pub fn creates(rt: &impl Abort, alloc: Global, count: usize) {
     let pairs = pairs_of(rt, alloc, count);
     let object = match IObject::try_from_pairs(alloc, pairs) {
@@ -123,13 +136,15 @@ pub fn creates(rt: &impl Abort, alloc: Global, count: usize) {
     drop(object);
 }
 
-/// Returns the key of a number: one character, which does not allocate.
+/// Returns the key of `number`: a single character, which does not allocate.
 fn character(rt: &impl Abort, alloc: Global, number: u16) -> IString {
     let character = char::from_u32(0x4e00 + u32::from(number)).expect(rt, "a character");
     key(rt, alloc, character.encode_utf8(&mut [0; 4]))
 }
 
-/// Inserts the entry of a number into an object, which is full if an allocation fails.
+/// Inserts the entry of `number` into `object`.
+///
+/// If an allocation fails, the object must be full, and the insertion is repeated.
 fn puts(rt: &impl Abort, alloc: Global, object: &mut IObject, number: u16) {
     let former = object.insert(character(rt, alloc, number), IValue::from(number));
     if let Some(RefusedPair { key, value, why }) = former.err() {

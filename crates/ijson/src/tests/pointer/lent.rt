@@ -1,5 +1,7 @@
-//! Writing through mutable references, with the signatures of the Rust crate `ijson`. The contract of each caller states the new whole
-//! value. `set_pair`, `set_inside` and `turn_truth` are proved by hand, and their callers are not.
+//! Tests of writing through mutable references, with the signatures of the Rust crate `ijson`.
+//!
+//! The contract of each caller states the whole new value. `set_pair`, `set_inside` and
+//! `turn_truth` are proved by hand; the functions that call them need no such proof.
 ghost use Rattle.std.specs.Prelude.{◌≡◌, ◌≢◌, Bool, true, not, IfOk, IfErr, IfSome, OnOk, IsTrue, IsFalse, IsSome, Some, None};
 ghost use Rattle.std.specs.Option.{ghost_name_of};
 ghost use Rattle.std.specs.String.{string_bytes};
@@ -25,21 +27,21 @@ use crate::value::{BoolMut, Destructured, DestructuredMut, IValue, ValueIndex};
 use std::alloc::Global;
 use std::process::Abort;
 
-/// Replaces a value by true.
+/// Replaces the value in `place` by true.
 fn put_true(place: &mut IValue)
     ensures { place.new ≡ boolean_value true }
 {
     *place = IValue::TRUE;
 }
 
-/// Replaces the content of a value by true.
+/// Replaces the content in `place` by true.
 fn put_true_opened(place: &mut Destructured)
     ensures { node_value place.new ≡ boolean_value true }
 {
     *place = Destructured::Bool(true);
 }
 
-/// Writes true at a pointer, if it refers to a value. Nothing else changes.
+/// Replaces the value at `pointer`, if any, by true. The rest of `value` is unchanged.
 fn set_named(value: &mut IValue, pointer: &str)
     ensures there { (t : Tree) → resolved value.old.tree pointer.now ≡ Some (Some t)
         → value.new.tree ≡ resolved_with value.old.tree pointer.now (boolean true) }
@@ -51,7 +53,7 @@ fn set_named(value: &mut IValue, pointer: &str)
     }
 }
 
-/// Replaces the value found, if any, by true, and returns its reference.
+/// Replaces the value in `found`, if any, by true, and returns the reference.
 fn put_found(found: Option<&mut IValue>) -> Option<&mut IValue>
     ensures same_reference { ghost_name_of found.entry ≡ ghost_name_of result }
     ensures written { IfSome result (λ place. place.now ≡ boolean_value true) }
@@ -65,7 +67,7 @@ fn put_found(found: Option<&mut IValue>) -> Option<&mut IValue>
     }
 }
 
-/// Like `put_found`, for the value of an entry.
+/// Like `put_found`, but for the value of an entry.
 fn put_entry<'a>(found: Option<(&'a IString, &'a mut IValue)>) -> Option<&'a mut IValue>
     ensures same_reference { pair_name found.entry ≡ ghost_name_of result }
     ensures written { IfSome result (λ place. place.now ≡ boolean_value true) }
@@ -79,21 +81,22 @@ fn put_entry<'a>(found: Option<(&'a IString, &'a mut IValue)>) -> Option<&'a mut
     }
 }
 
-/// Writes true as the value of a key. Nothing else changes.
+/// Sets the value of the key `index`, if it exists, to true. The rest of `object` is unchanged.
 fn set_pair<I: ObjectIndex>(object: &mut IObject, index: I)
     ensures { object.new ≡ with_key object.old (I.Sealed.key index) (boolean_value true) }
 {
     put_entry(index.index_into_mut(object));
 }
 
-/// Writes true as the value of a key, by the entry that is found.
+/// Sets the value of the key `letters`, if it exists, to true, through the entry that is found.
 fn set_found(object: &mut IObject, letters: &str) {
     if let Some((_, place)) = object.get_key_value_mut(letters) {
         put_true(place);
     }
 }
 
-/// Writes true one step inside a value, if there is a value. Nothing else changes.
+/// Replaces the value at the index or key `index`, if any, by true. The rest of `value` is
+/// unchanged.
 fn set_inside<I: ValueIndex>(value: &mut IValue, index: I)
     requires { kind_of value.old.tree ≡ kind_for (I.Sealed.step index) }
     ensures there { IsSome (tree_at value.old.tree (I.Sealed.step index))
@@ -103,7 +106,7 @@ fn set_inside<I: ValueIndex>(value: &mut IValue, index: I)
     put_found(index.index_into_mut(value));
 }
 
-/// Returns the text of `text` with true at a pointer.
+/// Returns the compact text of the JSON text `text` after true is written at `pointer`.
 fn with_true(alloc: Global, text: &str, pointer: &str) -> Result<String, JsonError>
     ensures { IfOk result (λ written. (t : Tree) × Accepted text.now t
         × ((u : Tree) → resolved t pointer.now ≡ Some (Some u)
@@ -122,7 +125,8 @@ fn with_true(alloc: Global, text: &str, pointer: &str) -> Result<String, JsonErr
     }
 }
 
-/// Writes true as the value of a key, by the path of the value, and returns `true` if the key exists.
+/// Sets the value of `key` to true by calling `IValue::get_mut`, and returns `true` if the key
+/// exists.
 #[tactic(auto, using(ijson_value::specs::laws::Steps::tree_with_step))]
 fn set_by_path(value: &mut IValue, key: &str) -> bool
     requires { kind_of value.old.tree ≡ kind_for (by_key key.now) }
@@ -138,9 +142,11 @@ fn set_by_path(value: &mut IValue, key: &str) -> bool
     }
 }
 
-/// Puts true as the value of a key, by the path of the value.
+/// Sets the value of `key` to true by calling `IValue::index_or_insert`, which appends a missing
+/// key.
 ///
-/// A new key is appended; if there is no capacity for it, it is returned with null, and the value is unchanged.
+/// If the capacity for a missing key cannot be reserved, the key is returned with null, and `value`
+/// is unchanged.
 #[tactic(auto, using(crate::proofs::test_lemmas::PutInside::is_kept_inside))]
 fn put_by_path(value: &mut IValue, key: IString) -> Result<(), RefusedPair>
     requires { kind_of value.old.tree ≡ kind_for (by_key key) }
@@ -153,7 +159,7 @@ fn put_by_path(value: &mut IValue, key: IString) -> Result<(), RefusedPair>
     Ok(())
 }
 
-/// Negates a Boolean in place, and returns its reference.
+/// Negates a Boolean through its reference `truth`, and returns the reference.
 fn turned(truth: BoolMut<'_>) -> BoolMut<'_>
     ensures same_reference { result.place.ghost_name ≡ truth.entry.place.ghost_name }
     ensures turned { result.place.now ≡ not truth.entry.place.now }
@@ -163,7 +169,7 @@ fn turned(truth: BoolMut<'_>) -> BoolMut<'_>
     truth
 }
 
-/// Negates a Boolean in place, and returns all references.
+/// Negates the Boolean in `parts`, if any, and returns all references in `parts`.
 fn turned_parts(parts: DestructuredMut<'_>) -> DestructuredMut<'_>
     ensures { IsTurned parts.entry result }
 {
@@ -177,7 +183,7 @@ fn turned_parts(parts: DestructuredMut<'_>) -> DestructuredMut<'_>
     }
 }
 
-/// Negates a Boolean. Another value is unchanged.
+/// Negates `value` if it is a Boolean. A value of another kind is unchanged.
 fn turn_truth(value: &mut IValue)
     ensures turned { (truth : Bool) → value.old ≡ boolean_value truth → value.new ≡ boolean_value (not truth) }
     ensures same { kind_of value.old.tree ≢ kind.Bool → value.new ≡ value.old }
@@ -187,14 +193,15 @@ fn turn_truth(value: &mut IValue)
 
 const TEXT: &str = r#"{"a":1,"b":[2]}"#;
 
-/// Keys, whether each exists in `TEXT`, and the text after true is put as its value.
+/// Keys, whether each exists in `TEXT`, and the text after its value is set to true.
 #[rattlefmt::skip]
 static WRITTEN: [(&str, bool, &str); 3] = [
     ("a", true, r#"{"a":true,"b":[2]}"#), ("b", true, r#"{"a":1,"b":true}"#),
     ("c", false, r#"{"a":1,"b":[2],"c":true}"#),
 ];
 
-/// Asserts whether a key exists, by the key returned with a mutable value.
+/// Asserts that each call that returns a key with a mutable value finds `letters` exactly if
+/// `there` is set.
 fn is_beside(rt: &impl Abort, object: &mut IObject, letters: &str, there: bool) {
     let found = object.get_key_value_mut(letters);
     assert!(*rt; matches!(found, Some((key, _)) if key.eq_str(letters)) == there);
@@ -202,7 +209,7 @@ fn is_beside(rt: &impl Abort, object: &mut IObject, letters: &str, there: bool) 
     assert!(*rt; matches!(found, Some((key, _)) if key.eq_str(letters)) == there);
 }
 
-/// Returns `TEXT` as a value, after a look at a key.
+/// Returns the value of `TEXT`, after `is_beside` has looked up the key `letters`.
 fn object_with(rt: &impl Abort, alloc: Global, letters: &str, there: bool) -> IValue
     ensures { kind_of result.tree ≡ kind.Object }
 {
@@ -213,7 +220,7 @@ fn object_with(rt: &impl Abort, alloc: Global, letters: &str, there: bool) -> IV
     value
 }
 
-/// Asserts the text after true is written as the value of a key, in the ways that write nothing if the key is missing.
+/// Asserts the text after each call that ignores a missing key sets the value of a key to true.
 fn writes(rt: &impl Abort, alloc: Global, letters: &str, there: bool, want: &str) {
     let mut value = object_with(rt, alloc, letters, there);
     set_pair(value.as_object_mut().expect(rt, "an object"), letters);
@@ -233,7 +240,7 @@ fn writes(rt: &impl Abort, alloc: Global, letters: &str, there: bool, want: &str
     drop(value);
 }
 
-/// Asserts the text after true is put as the value of a key, which adds a missing key.
+/// Asserts the text after `put_by_path` sets the value of a key to true, or adds the key.
 fn puts(rt: &impl Abort, alloc: Global, letters: &str, there: bool, want: &str) {
     let mut value = object_with(rt, alloc, letters, there);
     if let Err(refused) = put_by_path(&mut value, key(rt, alloc, letters)) {
@@ -245,7 +252,7 @@ fn puts(rt: &impl Abort, alloc: Global, letters: &str, there: bool, want: &str) 
     drop(value);
 }
 
-/// One value changes, and nothing else.
+/// Checks that setting the value of a key changes only that value.
 #[test]
 fn values_beside_keys(rt: HostRuntime) {
     for &(key, there, put) in &WRITTEN {
@@ -254,14 +261,14 @@ fn values_beside_keys(rt: HostRuntime) {
     }
 }
 
-/// JSON texts, and the text of each after its Boolean is negated.
+/// JSON texts, each with the text after a Boolean value is negated.
 #[rattlefmt::skip]
 static TURNED: [(&str, &str); 7] = [
     ("true", "false"), ("false", "true"), ("null", "null"), ("1", "1"), (r#""true""#, r#""true""#),
     ("[true]", "[true]"), (r#"{"true":true}"#, r#"{"true":true}"#),
 ];
 
-/// A Boolean is negated, and another value is unchanged.
+/// Checks that a Boolean is negated, and that a value of another kind is unchanged.
 #[test]
 fn truth_values_turned(rt: HostRuntime) {
     for &(text, want) in &TURNED {
@@ -272,7 +279,7 @@ fn truth_values_turned(rt: HostRuntime) {
     }
 }
 
-/// A text is written with another value in it.
+/// Checks that the text contains true in place of the value at a pointer.
 #[test]
 fn texts_with_another_value(rt: HostRuntime) {
     let written = granted!(&rt; JsonError::Memory; with_true(rt.alloc(), TEXT, "/b/0"));

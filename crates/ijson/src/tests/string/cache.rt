@@ -1,4 +1,6 @@
-//! Scripts on a cache, which is unchanged after a failed allocation, and the number of allocations of each call.
+//! Tests of a cache by scripts of calls, with the number of allocations of each call.
+//!
+//! After a failed allocation, the cache must be unchanged.
 use self::Call::{Clear, Intern, Show};
 use crate::string::IString;
 use crate::tests::support::{Cache, empty_cache, interned, is_shown, set};
@@ -6,19 +8,19 @@ use std::alloc::{AllocError, Global};
 use std::hash::{BuildHasher, BuildHasherDefault, DefaultHasher};
 use std::process::Abort;
 
-/// A call on a cache.
+/// A call on a cache of strings.
 enum Call {
-    /// Interns a string with this number of allocations.
+    /// Interns this string with this number of allocations.
     Intern(&'static str, u8),
     Clear,
-    /// Prints the cache by `Debug`.
+    /// Asserts this debug output of the cache.
     Show(&'static str),
 }
 
 const FOUR: &str =
     r#"{"second here", "first there", "third \"place\" and a long string after it", "a fourth"}"#;
 
-/// Calls, and the number of strings in the cache after each.
+/// Scripts of calls, each call with the number of strings in the cache after it.
 static SCRIPTS: [&[(Call, usize)]; 2] = [
     &[
         (Intern("seven77", 0), 0),
@@ -45,7 +47,9 @@ static SCRIPTS: [&[(Call, usize)]; 2] = [
     ],
 ];
 
-/// Interns a string again, and compares it and a copy. No call allocates.
+/// Interns `letters` again, and asserts that the result and a copy are equal to `text`.
+///
+/// The calls must not allocate.
 fn again(rt: &impl Abort, cache: &mut Cache, text: &IString, letters: &str) -> IString {
     let (before, hasher) = (cache.len(), BuildHasherDefault::<DefaultHasher>::new());
     let again = IString::intern(cache, letters).expect(rt, "a text");
@@ -58,7 +62,7 @@ fn again(rt: &impl Abort, cache: &mut Cache, text: &IString, letters: &str) -> I
     again
 }
 
-/// Returns the number of strings, and whether the cache contains each of four.
+/// Returns the number of strings in `cache`, and whether it contains each of four strings.
 fn state(cache: &Cache, letters: &str) -> (usize, [bool; 4]) {
     let texts = [letters, "a text that was there", "second here", "abcdefgh"];
     (cache.len(), texts.map(|text| cache.contains(text)))
@@ -66,7 +70,9 @@ fn state(cache: &Cache, letters: &str) -> (usize, [bool; 4]) {
 
 type Texts = (IString, IString);
 
-/// Interns a string with this number of allocations, and again. If one fails, the cache is unchanged.
+/// Interns `letters` with `blocks` allocations, and then again without an allocation.
+///
+/// If an allocation fails, the cache must be unchanged, and the call is repeated.
 fn intern(rt: &impl Abort, alloc: Global, cache: &mut Cache, letters: &str, blocks: u8) -> Texts {
     let before = state(cache, letters);
     let text = counted!(alloc; blocks; match IString::intern(cache, letters) {
@@ -83,14 +89,16 @@ fn intern(rt: &impl Abort, alloc: Global, cache: &mut Cache, letters: &str, bloc
     (text, again)
 }
 
-/// Asserts that a string is printed like a `str`.
+/// Asserts that `text` is printed like the `str` with the same letters.
 fn is_printed(rt: &impl Abort, alloc: Global, text: &IString, letters: &str) {
     let printed = granted!(rt; format!(in alloc; "{text}{text:?}"));
     let want = granted!(rt; format!(in alloc; "{letters}{letters:?}"));
     assert!(*rt; printed == want);
 }
 
-/// Runs the calls on an empty cache. The string that was last interned outlives it.
+/// Makes the calls of `script` on an empty cache.
+///
+/// The string that was interned last must outlive the cache.
 fn runs(rt: &impl Abort, alloc: Global, script: &[(Call, usize)]) {
     let mut cache = counted!(alloc; empty_cache(alloc));
     let mut texts = counted!(alloc; (IString::new(), IString::default()));
@@ -121,9 +129,11 @@ fn scripts(rt: HostRuntime) {
     }
 }
 
-/// Returns how many blocks a string of this length takes if it is the `count`-th of a new cache.
+/// Returns the number of allocations for a string of `length` bytes that is the `count`-th of a new
+/// cache.
 ///
-/// The cache has two lists that double when 4, 8, 16, 32, 64 or 128 strings are in it, and one that doubles at 64 and 128.
+/// The first string allocates three lists of the cache. Two of these lists double when they contain
+/// 4, 8, 16, 32, 64 or 128 strings, and the third doubles at 64 and 128 strings.
 fn blocks(length: usize, count: usize) -> u8 {
     let lists = match count {
         1 | 65 | 129 => 3,
@@ -137,10 +147,10 @@ fn blocks(length: usize, count: usize) -> u8 {
     }
 }
 
-/// The lengths of prefixes after those from 0 to 200.
+/// The lengths of the prefixes after the first 201 prefixes, whose lengths are 0 to 200.
 static LONGEST: [usize; 2] = [41_000, 1_000_000];
 
-/// Interns `count` prefixes of a text.
+/// Interns the first `count` prefixes of `text`, and asserts the number of allocations of each.
 fn intern_prefixes(
     rt: &impl Abort,
     alloc: Global,
@@ -163,7 +173,9 @@ fn intern_prefixes(
     }
 }
 
-/// Interns prefixes of each length below `count` in a new cache, and again after `clear`, which keeps the capacity.
+/// Interns the first `count` prefixes of `text` in a new cache, and again after `clear`.
+///
+/// `clear` keeps the capacity, so the lists of the cache do not grow again.
 pub(super) fn run_prefixes(rt: &impl Abort, alloc: Global, text: &str, count: usize, prints: bool) {
     let mut cache = empty_cache(alloc);
     intern_prefixes(rt, alloc, &mut cache, (text, count), (true, prints));

@@ -1,4 +1,4 @@
-//! The scripts of `numbers`, and strings of each length, with more strings and longer ones.
+//! The tests of `numbers` and `cache` with more and longer strings.
 use super::cache::run_prefixes;
 use super::numbers::{Fold, One, SCRIPTS, run_all, runs};
 

@@ -1,4 +1,6 @@
-//! Scripts that intern the digits of numbers. Strings that repeat in one order are rarely hashed from the third time on.
+//! Tests of how many strings are hashed, by scripts that intern the digits of numbers.
+//!
+//! Strings that repeat in the same order are rarely hashed from the third pass on.
 use self::Call::{Clear, Down, Records, Up, UpDown};
 use crate::string::{IString, StringCache};
 use crate::tests::support::interned;
@@ -7,22 +9,25 @@ use std::cell::Cell;
 use std::hash::{BuildHasher, BuildHasherDefault, FoldHasher, Hasher};
 use std::process::Abort;
 
-/// Which numbers below its count a call interns.
+/// Which numbers a call interns, and in which order.
 #[derive(Clone, Copy)]
 pub(super) enum Call {
-    /// None, after `clear`.
+    /// No numbers; the cache is cleared.
     Clear,
     Down,
-    /// Those below half the count, each before a unique number from this one on.
+    /// The numbers below half the count, each followed by a unique number. The unique numbers start
+    /// at this number.
     Records(usize),
     Up,
-    /// Those below half the count, ascending and then descending.
+    /// The numbers below half the count, ascending and then descending.
     UpDown,
 }
 
-/// A call, its count, how many strings it hashes at most, and the number of strings in the cache after it.
+/// A call, its count of strings, the maximum number of strings that it hashes, and the number of
+/// strings in the cache after it.
 ///
-/// The numbers are in units, so that a script is run with few strings or many. Two more strings may be hashed.
+/// The numbers are multiplied by a unit, so that a script can run with few or with many strings.
+/// Two more strings than the maximum may be hashed.
 pub(super) type Row = (Call, usize, usize, usize);
 
 pub(super) static SCRIPTS: [&[Row]; 4] = [
@@ -49,7 +54,7 @@ pub(super) static SCRIPTS: [&[Row]; 4] = [
     ],
 ];
 
-/// Gives all strings one hash.
+/// A hasher that returns the same hash for all strings.
 #[derive(Clone, Copy, Default, Drop)]
 pub(super) struct OneHash;
 
@@ -65,7 +70,10 @@ impl Hasher for OneHash {
     fn write(&mut self, _bytes: &[u8]) {}
 }
 
-/// Counts the strings that are hashed. The content of a cell is no part of a value, so for a contract it is unchanged.
+/// Counts the strings that are hashed.
+///
+/// In contracts the content of a `Cell` is not part of a value, so `build_hasher` does not change
+/// this value.
 #[derive(Drop)]
 struct Counting<'a, S> {
     hashed: &'a Cell<usize>,
@@ -83,7 +91,7 @@ impl<S: BuildHasher> BuildHasher for Counting<'_, S> {
     }
 }
 
-/// Returns the number at `index` in a call with this count.
+/// Returns the number that `call`, with `count` strings, interns at `index`.
 fn number_at(call: Call, count: usize, index: usize) -> usize {
     let rest = count.saturating_sub(index).saturating_sub(1);
     match call {
@@ -95,7 +103,9 @@ fn number_at(call: Call, count: usize, index: usize) -> usize {
     }
 }
 
-/// Interns the digits of each number of a call. A string that is hashed again after a failed allocation counts once.
+/// Interns the digits of each number of `call`.
+///
+/// A string that is hashed again after a failed allocation counts once.
 fn intern_each<S: BuildHasher>(
     rt: &impl Abort,
     alloc: Global,
@@ -119,7 +129,10 @@ fn intern_each<S: BuildHasher>(
     }
 }
 
-/// Runs the calls on an empty cache. If it then has strings, zero is one of them; the number of its strings is not.
+/// Makes the calls of `script` on an empty cache, with all counts multiplied by `unit`.
+///
+/// After each call, a cache of `n` strings must contain the digits of 0, unless `n` is 0, but must
+/// not contain the digits of `n`.
 pub(super) fn runs<S: BuildHasher + Drop>(
     rt: &impl Abort,
     alloc: Global,
@@ -148,7 +161,7 @@ pub(super) type Fold = BuildHasherDefault<FoldHasher>;
 
 pub(super) type One = BuildHasherDefault<OneHash>;
 
-/// Runs the scripts with one hash for all strings.
+/// Runs all scripts with a hasher that returns the same hash for all strings.
 pub(super) fn run_all(rt: &impl Abort, alloc: Global, unit: usize) {
     for script in &SCRIPTS {
         runs(rt, alloc, One::new(), unit, script);

@@ -1,4 +1,4 @@
-//! The seed of a `SeededState`.
+//! Tests of the seed of a `SeededState`.
 
 use crate::string::SeededState;
 use std::cell::Cell;
@@ -8,7 +8,9 @@ use std::io::ErrorKind;
 use std::process::Abort;
 use std::random::RandomSource;
 
-/// A source of these bytes and then zeros, which fails if there are none, and counts the bytes given.
+/// A random source that returns `bytes` and then zeros, and counts the bytes that it returned.
+///
+/// A source without bytes fails.
 #[derive(Drop)]
 struct Bytes<'a> {
     bytes: &'a [u8],
@@ -29,7 +31,7 @@ impl RandomSource for Bytes<'_> {
     }
 }
 
-/// Returns the result of creating a state from these bytes, and how many it took.
+/// Returns the result of creating a state from `bytes`, and the number of bytes used.
 fn seeded(bytes: &[u8]) -> (io::Result<SeededState>, usize) {
     let source = Bytes {
         bytes,
@@ -39,7 +41,7 @@ fn seeded(bytes: &[u8]) -> (io::Result<SeededState>, usize) {
     (state, source.given.get())
 }
 
-/// Returns the hash of a word by std's hasher, after the eight bytes of a seed.
+/// Returns the hash of the word 7 by std's `FoldHasher`, after `bytes` were written.
 fn folded(bytes: &[u8]) -> u64 {
     let mut hasher = FoldHasher::default();
     hasher.write(bytes);
@@ -47,7 +49,7 @@ fn folded(bytes: &[u8]) -> u64 {
     hasher.finish()
 }
 
-/// Seeds that differ in one byte from the first one.
+/// A seed of eight bytes, followed by seeds that differ from it in one byte each.
 static SEEDS: [[u8; 8]; 9] = [
     [9, 8, 7, 6, 5, 4, 3, 2],
     [8, 8, 7, 6, 5, 4, 3, 2],

@@ -1,4 +1,4 @@
-//! Properties of a string.
+//! Tests of properties of strings, by a table.
 use self::Property::{Bytes, Debug, Less, Padded, Wide, Words};
 use crate::string::IString;
 use crate::tests::support::{Cache, empty_cache, feeds, interned, is_shown};
@@ -8,13 +8,14 @@ use std::process::Abort;
 
 enum Property {
     Bytes(&'static [u8]),
-    /// The output of `Debug`.
+    /// The debug output of the string.
     Debug(&'static str),
-    /// The string is less than this one.
+    /// The string is less than this string.
     Less(&'static str),
-    /// The length of a short string, and the string padded to 7 bytes.
+    /// The length of an inline string and the string padded with zeros to 7 bytes, or `None` for a
+    /// boxed string.
     Padded(Option<(u8, &'static str)>),
-    /// The output in a width of 10, at its right end.
+    /// The output with a width of 10, aligned right.
     Wide(&'static str),
     /// The words that the string feeds a hasher.
     Words(&'static [u64]),
@@ -45,7 +46,7 @@ static PROPERTIES: [(&str, Property); 23] = [
     ("two\nlines, \u{e9} and \u{1}", Debug("\"two\\nlines, \u{e9} and \\u{1}\"")),
 ];
 
-/// Asserts that one string is less than the other.
+/// Asserts that `less` is less than `more`, by each call that compares them.
 fn is_less(rt: &impl Abort, less: &IString, more: &IString) {
     assert!(*rt; less < more && less != more && less.cmp(more) == Ordering::Less);
     assert!(*rt; less.partial_cmp(more) == Some(Ordering::Less));

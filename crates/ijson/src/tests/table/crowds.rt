@@ -1,11 +1,14 @@
-//! Numbers of inspections: tables from lists of keys that were chosen to collide, and tables that grow and shrink.
+//! Tests of numbers of inspections.
+//!
+//! Tables are built from lists of keys that were chosen to collide; tables also grow and shrink.
 
 use super::sizes::{built, listed};
 use super::*;
 
-/// The upper half of the fixed hash times 2,560.
+/// A hash that is 2,560 times the upper half of the fixed hash.
 ///
-/// Each key has the first slot as its home slot, if 2,560 is a multiple of the number of slots, and few hashes are equal.
+/// If 2,560 is a multiple of the number of slots, all keys have the first slot as their home slot.
+/// Few hashes are equal.
 #[derive(Drop)]
 pub struct Multiples;
 
@@ -23,26 +26,29 @@ impl KeyHash for Multiples {
 /// How the keys of a list are chosen.
 #[derive(Clone, Copy, Drop)]
 pub enum Chosen {
-    /// Decimal numbers.
+    /// The digits of the numbers from 0 on.
     Digits,
-    /// A twin for each bit of a number, all with the same fixed hash.
+    /// Strings composed of `TWINS`, one for each bit of a number. All have the same fixed hash.
     Twins,
-    /// Twins, each repeated after all of them.
+    /// Half as many strings as `Twins`, followed by the same strings again.
     TwinsAgain,
-    /// Twins, each repeated consecutively.
+    /// Half as many strings as `Twins`, each twice in a row.
     TwinsInARow,
-    /// By length: one key of each, then a second one of each from the longest on.
+    /// A key of each length, followed by a second key of each length, from the longest on.
     ///
-    /// One by one they take two inspections each, and move twice as many residents as there are longer ones.
+    /// Inserted one by one, a second key takes two inspections, and moves two residents for each
+    /// greater length.
     Lengths,
 }
 
-/// Two texts that the fixed hash does not distinguish, from any state on.
+/// Two strings that the fixed hash does not distinguish: from any state, both lead to the same
+/// state.
 ///
-/// Their bytes, weighted by the powers of its prime, have the same sum modulo 2^64.
+/// The bytes of both strings, weighted by the powers of the prime of the hash, have the same sum
+/// modulo `2 ^ 64`.
 static TWINS: [&str; 2] = ["aacekgaaaapa", "biaaaaocsnar"];
 
-/// Returns a text of twins, one for each bit of a number.
+/// Returns a string of 11 twins: one of `TWINS` for each of the lowest bits of `number`.
 fn twins(rt: &impl Host, number: usize) -> String {
     let mut text = granted!(rt; String::with_capacity(rt.alloc(), 132));
     let mut bits = number;
@@ -53,7 +59,7 @@ fn twins(rt: &impl Host, number: usize) -> String {
     text
 }
 
-/// Returns the key at an index of a list of `count`.
+/// Returns the key at the index `at` of a list of `count` keys.
 fn letters(rt: &impl Host, chosen: Chosen, count: usize, at: usize) -> String {
     match chosen {
         Chosen::Digits => granted!(rt; format!(in rt.alloc(); "{at}")),
@@ -65,7 +71,7 @@ fn letters(rt: &impl Host, chosen: Chosen, count: usize, at: usize) -> String {
     }
 }
 
-/// Returns a list of `count` keys, with indices as values.
+/// Returns a list of `count` entries, whose values are their indices.
 fn chosen_list(rt: &impl Host, chosen: Chosen, count: usize) -> Vec<Entry> {
     let mut pairs = granted!(rt; Vec::with_capacity(rt.alloc(), count));
     for at in 0..count {
@@ -77,7 +83,7 @@ fn chosen_list(rt: &impl Host, chosen: Chosen, count: usize) -> Vec<Entry> {
     pairs
 }
 
-/// Returns a table of these entries, and the number of inspections that build it.
+/// Returns a table built from `pairs`, and the number of inspections that building it takes.
 fn build<H: KeyHash>(
     rt: &impl Host,
     pairs: &[Entry],
@@ -87,7 +93,9 @@ fn build<H: KeyHash>(
     Ok((table, looks.count()))
 }
 
-/// Asserts that a table of a list has the entries of one by one insertions, and returns the number of inspections that build it.
+/// Asserts that a table built from a list has the entries of a list filled by insertions.
+///
+/// Returns the number of inspections that building the table takes.
 pub fn inspections<H: KeyHash + Drop>(rt: &impl Host, chosen: Chosen, count: usize) -> u128 {
     let pairs = chosen_list(rt, chosen, count);
     let mut list: LinearPairs<u64> = roomy(rt, count);
@@ -102,11 +110,17 @@ pub fn inspections<H: KeyHash + Drop>(rt: &impl Host, chosen: Chosen, count: usi
     looks
 }
 
-/// Asserts the number of inspections for a list whose table is built by sorting, for a power of two.
+/// Asserts the bounds of the number of inspections for a list whose table is built by sorting.
 ///
-/// The maximum is 36 per entry, and 2 for each time that the count can be halved. The minimum is 32 steps per entry before sorting, half
-/// a comparison for each entry and each time that the count can be halved, and one inspection per entry at the first of each key. If
-/// keys are repeated consecutively, there are fewer entries to sort, but each takes more than the minimum.
+/// `count` must be a power of two: `2 ^ halvings`.
+///
+/// - The maximum is 36 inspections per entry, and two more per entry and halving.
+/// - The minimum is 33 inspections per entry, and half a comparison more per entry and halving. 32
+///   of these inspections are the steps before sorting, and the other is at the first entry of each
+///   key.
+///
+/// If keys are repeated consecutively, fewer entries are sorted, but each takes more than the
+/// minimum.
 pub fn is_sorted<H: KeyHash + Drop>(rt: &impl Host, chosen: Chosen, count: usize) {
     let looks = inspections::<H>(rt, chosen, count);
     let (entries, halvings) = (count as u128, u128::from(count.max(1).ilog2()));
@@ -114,7 +128,7 @@ pub fn is_sorted<H: KeyHash + Drop>(rt: &impl Host, chosen: Chosen, count: usize
     assert!(*rt; least < looks && looks <= entries * (36 + 2 * halvings));
 }
 
-/// Doubles the capacity of a full table, or shrinks it to the length, and returns the number of steps.
+/// Doubles the capacity of a full table, or shrinks it to the length. Returns the number of steps.
 fn steps_of(table: &mut Crowded, is_doubled: bool) -> Result<u128, ReserveError> {
     let mut looks = Looks::new();
     if is_doubled {
@@ -125,10 +139,12 @@ fn steps_of(table: &mut Crowded, is_doubled: bool) -> Result<u128, ReserveError>
     Ok(looks.count())
 }
 
-/// Asserts the number of steps of doubling the capacity of a table of `count` entries, and of shrinking it.
+/// Asserts the number of steps for doubling the capacity of a table of `count` entries, and for
+/// shrinking it.
 ///
-/// One by one, each entry inspects the slots of those before it and an empty slot, and writes that. Past 32 steps per entry of the new
-/// capacity, all are sorted: in each merge of two halves, one comparison for each entry of the left half.
+/// If entries are inserted one by one, an entry inspects the slots of the entries before it and an
+/// empty slot, and writes the empty slot. After 32 steps per entry of the new capacity, all entries
+/// are sorted instead. Merging two halves takes one comparison for each entry of the left half.
 pub fn takes_steps(rt: &impl Host, count: u16, grown: u128, shrunk: u128) {
     let pairs = listed(rt, count.saturating_sub(1), false);
     let mut table = granted!(rt; ReserveError::Memory; built(rt, &pairs, false));
@@ -140,10 +156,15 @@ pub fn takes_steps(rt: &impl Host, count: u16, grown: u128, shrunk: u128) {
     drop(pairs);
 }
 
-/// 378 was computed apart from this library, from the fixed hashes of the numbers.
+/// Checks the numbers of inspections for 64 keys, and for resizing a table of 200 entries.
 ///
-/// Each takes the slots from its home slot to the empty one that is written last, and the one at which its probe ends counts twice. Of keys
-/// with one home slot, 159 take 32 steps per entry of the new capacity in growth, and 112 in shrinking; sorting 200 takes 732 comparisons.
+/// The number 378 was computed without this library, from the fixed hashes of the numbers.
+///
+/// A key inspects the slots from its home slot to the empty slot that is written last. The slot at
+/// which its probe ends counts twice.
+///
+/// With one home slot, the first 159 entries exceed 32 steps per entry of the new capacity in
+/// growth, and the first 112 entries do in shrinking. Sorting 200 entries takes 732 comparisons.
 #[test]
 fn inspections_are_counted(rt: HostRuntime) {
     assert!(rt; inspections::<FixedHash>(&rt, Chosen::Digits, 64) == 378);

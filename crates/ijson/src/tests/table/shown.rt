@@ -1,17 +1,17 @@
-//! The messages of errors, and the debug output of each type.
+//! Tests of error messages, and of the debug output of each type.
 
 use super::Step::*;
 use super::*;
 use std::fmt::Display;
 
-/// Asserts the message and the debug output of an error.
+/// Asserts that `want` is the message of `error`, followed by `|` and its debug output.
 fn tells<T: Debug + Display>(rt: &impl Host, error: &T, want: &str) {
     let told = granted!(rt; format!(in rt.alloc(); "{error}|{error:?}"));
     assert!(*rt; told.as_str() == want, "{told}");
     drop(told);
 }
 
-/// Reasons, and the messages of each and of an entry rejected for it.
+/// Reasons, each with its messages and the messages of an entry that is returned for this reason.
 static REASONS: [(ReserveError, &str, &str); 2] = [
     (
         ReserveError::Memory,
@@ -39,7 +39,8 @@ fn errors_tell_the_reason(rt: HostRuntime) {
     drop(back);
 }
 
-/// Steps of one run within the capacity, and the debug output of the command and the reply of each.
+/// Steps of a run within the initial capacity, each with the debug output of its command and of its
+/// reply.
 static RUN: [(Step, &str, &str); 9] = [
     (Put("a", 1), "Insert(\"a\", 1)", "Added"),
     (Put("a", 2), "Insert(\"a\", 2)", "Replaced(1)"),
@@ -52,7 +53,7 @@ static RUN: [(Step, &str, &str); 9] = [
     (Shrink, "ShrinkToFit", "Done"),
 ];
 
-/// Returns the commands of the run, whose debug output it asserts.
+/// Returns the commands of `RUN`, and asserts their debug output.
 fn commands(rt: &impl Host) -> Vec<Command<u64>> {
     let mut commands = granted!(rt; Vec::with_capacity(rt.alloc(), RUN.len()));
     for (step, want, _) in &RUN {
@@ -63,7 +64,7 @@ fn commands(rt: &impl Host) -> Vec<Command<u64>> {
     commands
 }
 
-/// Asserts the reply to each command of the run.
+/// Asserts the reply of a store to each command of `RUN`.
 fn replies_to_run<S: Store>(rt: &impl Host) {
     let mut store: S = roomy(rt, 4);
     let replies = granted!(rt; run(rt.alloc(), &mut store, commands(rt)));
@@ -87,9 +88,9 @@ const LINES: &str = r#"{
     "b": 3,
 }"#;
 
-/// Asserts the debug output of a store, and its layout with a line for each entry.
+/// Asserts the debug output of a store, in one line and with a line for each entry.
 ///
-/// The keys are not sorted; one of them is boxed and has characters that are escaped.
+/// The keys are not sorted. The second key is boxed, and has characters that are escaped.
 fn is_shown_so<S: Store>(rt: &impl Host) {
     let mut store = S::new(rt.alloc());
     is_shown(rt, rt.alloc(), &store, "{}");

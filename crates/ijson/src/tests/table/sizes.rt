@@ -1,11 +1,14 @@
-//! Stores that grow, shrink and are copied. No clause states that a call succeeds if memory is available.
+//! Tests of stores of many sizes that grow, shrink and are copied.
+//!
+//! No clause states that a call succeeds if memory is available.
 
 use super::Step::*;
 use super::*;
 
-/// 2500 for a text of even length, and 1 for another.
+/// A hash that is 2500 for a key of even length, and 1 for a key of odd length.
 ///
-/// Of 2,500 slots, 0 is the home slot of the former and 1 that of the latter; of 5,000 slots, 2500 and 1.
+/// In a table of 2,500 slots, the home slots are 0 for keys of even length and 1 for keys of odd
+/// length. In a table of 5,000 slots, they are 2500 and 1.
 #[derive(Drop)]
 pub struct ByParity;
 
@@ -19,9 +22,9 @@ impl KeyHash for ByParity {
     }
 }
 
-/// Returns the entries of the numbers up to `count`, each with a key of its own.
+/// Returns the entries of the numbers from 0 to `count`, each with a different key.
 ///
-/// If the keys are mixed, those of even numbers below `count` are longer.
+/// If `is_mixed` is set, the keys of even numbers below `count` are longer.
 pub fn listed(rt: &impl Host, count: u16, is_mixed: bool) -> Vec<Entry> {
     let mut pairs = granted!(rt; Vec::with_capacity(rt.alloc(), usize::from(count) + 1));
     for number in 0..=count {
@@ -32,7 +35,8 @@ pub fn listed(rt: &impl Host, count: u16, is_mixed: bool) -> Vec<Entry> {
     pairs
 }
 
-/// Adds entries within the capacity, by `insert` or by `push_new`.
+/// Adds `pairs` within the capacity of `store`: by `insert` if `inserts` is set, otherwise by
+/// `push_new`.
 pub fn fill<S: Store>(rt: &impl Host, store: &mut S, pairs: &[Entry], inserts: bool) {
     for (key, value) in pairs {
         let key = key.clone().expect(rt, "a key");
@@ -45,7 +49,7 @@ pub fn fill<S: Store>(rt: &impl Host, store: &mut S, pairs: &[Entry], inserts: b
     }
 }
 
-/// Asserts the entries and the capacity of a store, and of its copy if it is a table.
+/// Asserts the entries and the capacity of `store`, and of a copy if the store is a table.
 fn is_kept<S: Store>(rt: &impl Host, store: &S, pairs: &[Entry], capacity: usize) {
     assert!(*rt; counted!(rt.alloc(); holds(store, pairs, capacity)));
     if let Some(copy) = store.copy(rt) {
@@ -54,7 +58,10 @@ fn is_kept<S: Store>(rt: &impl Host, store: &S, pairs: &[Entry], capacity: usize
     }
 }
 
-/// Asserts that a store of all these entries but the last keeps them as it grows and shrinks, and takes the last.
+/// Asserts that `store` keeps its entries when it grows and shrinks, and that an entry can be
+/// added.
+///
+/// `store` must contain all of `pairs` except the last, which is added at the end.
 fn resizes<S: Store>(rt: &impl Host, mut store: S, pairs: &[Entry], capacity: usize) {
     let (last, before) = pairs.split_last().expect(rt, "an entry");
     let (number, len) = (u16::try_from(last.1).expect(rt, "a number"), before.len());
@@ -69,7 +76,9 @@ fn resizes<S: Store>(rt: &impl Host, mut store: S, pairs: &[Entry], capacity: us
     drop(store);
 }
 
-/// Asserts that a store of this capacity is resized, filled with `count` entries: by `insert` if their keys are mixed.
+/// Calls `resizes` for a store with the capacity `capacity` and `count` entries.
+///
+/// If `is_mixed` is set, the keys have two lengths, and `insert` adds the entries.
 pub fn fills<S: Store>(rt: &impl Host, count: u16, capacity: usize, is_mixed: bool) {
     let pairs = listed(rt, count, is_mixed);
     let (_, before) = pairs.split_last().expect(rt, "an entry");
@@ -79,7 +88,7 @@ pub fn fills<S: Store>(rt: &impl Host, count: u16, capacity: usize, is_mixed: bo
     drop(pairs);
 }
 
-/// Returns a table that is built from these entries, and from the first once more if `again`.
+/// Returns a table built from `pairs`, and from the first entry once more if `again` is set.
 pub fn built<H: KeyHash>(
     rt: &impl Host,
     pairs: &[Entry],
@@ -93,7 +102,9 @@ pub fn built<H: KeyHash>(
     Table::from_pairs(rt.alloc(), list)
 }
 
-/// Asserts that a table built from `count` entries, and from the first once more if `again`, is resized.
+/// Calls `resizes` for a table built from `count` entries.
+///
+/// If `again` is set, the first entry occurs once more at the end of the list.
 pub fn builds<H: KeyHash + Drop>(rt: &impl Host, count: u16, again: bool) {
     let pairs = listed(rt, count, false);
     let (_, before) = pairs.split_last().expect(rt, "an entry");
@@ -102,7 +113,7 @@ pub fn builds<H: KeyHash + Drop>(rt: &impl Host, count: u16, again: bool) {
     drop(pairs);
 }
 
-/// Asserts that each kind of store of `count` entries is resized.
+/// Calls `resizes` for each kind of store with `count` entries, and for tables built from a list.
 pub fn all_resize(rt: &impl Host, count: u16) {
     each_store!(fills(rt, count, usize::from(count), false));
     builds::<AlwaysZero>(rt, count, false);
@@ -127,13 +138,15 @@ fn more_entries(rt: HostRuntime) {
         fills::<Fixed>(rt, count, usize::from(count), false);
         builds::<FixedHash>(rt, count, true);
     }
-    // Few and many slots, whose keys have one home slot.
+    // Tables with few and with many slots, whose keys have the same home slot.
     for (count, capacity) in [(0, 128), (1, 240), (40, 200), (61, 128), (128, 128)] {
         fills::<Crowded>(rt, count, capacity, true);
     }
 }
 
-/// Asserts that a new store grows to this capacity and shrinks, and is created with it, but not with one past the limit.
+/// Asserts that a new store grows to `capacity` and shrinks, and can be created with `capacity`.
+///
+/// Creating a store with a capacity over the limit must fail.
 pub fn grows_far<S: Store>(rt: &impl Host, capacity: usize) {
     let mut store = S::new(rt.alloc());
     replies(rt, &mut store, Reserve(capacity), Way::Run, "Done");
@@ -148,7 +161,7 @@ pub fn grows_far<S: Store>(rt: &impl Host, capacity: usize) {
     assert!(*rt; past.err() == Some(ReserveError::TooLarge));
 }
 
-/// Inserts a number by its digits.
+/// Inserts `number`, with its digits as the key.
 fn put_digits(rt: &impl Host, table: &mut Fixed, number: u64) -> Result<Option<u64>, ReserveError> {
     let letters = granted!(rt; format!(in rt.alloc(); "{number}"));
     let key = key(rt, rt.alloc(), &letters);
@@ -156,9 +169,10 @@ fn put_digits(rt: &impl Host, table: &mut Fixed, number: u64) -> Result<Option<u
     Ok(table.insert(key, number)?)
 }
 
-/// Asserts that a table takes the numbers below `count`, at this capacity, and keeps them as it shrinks.
+/// Asserts that a table of the numbers below `count` has the capacity `capacity`, and keeps them
+/// when it shrinks.
 ///
-/// It looks up the digits of the last two, and of `count`.
+/// `digits` must be the digits of the last two numbers and of `count`, which is missing.
 pub fn takes_many(rt: &impl Host, count: usize, capacity: usize, digits: [&str; 3]) {
     let mut table = Fixed::new(rt.alloc());
     for number in 0..count as u64 {

@@ -1,10 +1,12 @@
-//! Tables checked slot by slot, and their numbers of inspections.
+//! Tests of the slots of tables, and of numbers of inspections.
 
 use super::Step::*;
 use super::sizes::{fill, listed};
 use super::*;
 
-/// Returns `true` if a key is at this index, or missing, after this number of inspections by `locate` and by `get_counted`.
+/// Returns `true` if each lookup of `key` finds the index `at`, or no entry if `at` is `None`.
+///
+/// `locate` and `get_counted` must make `count` inspections each.
 fn finds<H: KeyHash>(table: &Table<u64, H>, key: &str, at: Option<usize>, count: u128) -> bool {
     if table.len() > 1000 {
         return false;
@@ -16,7 +18,8 @@ fn finds<H: KeyHash>(table: &Table<u64, H>, key: &str, at: Option<usize>, count:
         && [looks.count(), looks_of_get.count()] == [count, count]
 }
 
-/// Returns `true` if these are the indices in the slots, 9 for an empty one.
+/// Returns `true` if the slots of `table` contain the indices `positions`, with 9 for an empty
+/// slot.
 fn has_positions<P: Places>(table: &P, positions: &[usize]) -> bool {
     if table.places() != positions.len() {
         return false;
@@ -33,7 +36,8 @@ fn has_positions<P: Places>(table: &P, positions: &[usize]) -> bool {
     true
 }
 
-/// A step, the debug output of its reply, the indices in the slots then, and the number of inspections of a lookup.
+/// A step, the debug output of its reply, the indices in the slots after it, and the inspections of
+/// a lookup.
 type Worked = (Step, &'static str, &'static [usize], u128);
 
 const A_REMOVED: &str = "Removed(Some((\"a\", 0)))";
@@ -47,7 +51,7 @@ static BY_LENGTH: [Worked; 36] = [
     (Put("c", 2), "Added", &[9, 0, 2, 1, 9], 0), (Put("dd", 3), "Added", &[9, 0, 2, 1, 3], 0),
     (Find("dd"), "Found(Some(3))", &[9, 0, 2, 1, 3], 3), (Find("z"), "Found(None)", &[9, 0, 2, 1, 3], 3),
     (Find("zz"), "Found(None)", &[9, 0, 2, 1, 3], 4),
-    // the last entry moves into a gap; after new insertions those after a gap are shifted
+    // `Remove` moves the last entry into the gap; `ShiftRemove` shifts all entries after the gap
     (Remove("a"), A_REMOVED, &[9, 2, 1, 0, 9], 0), (Find("dd"), "Found(Some(0))", &[9, 2, 1, 0, 9], 2),
     (Find("bb"), "Found(Some(1))", &[9, 2, 1, 0, 9], 1), (Find("c"), "Found(Some(2))", &[9, 2, 1, 0, 9], 1),
     (Clear, "Done", &[9, 9, 9, 9, 9], 0), (Put("a", 0), "Added", &[9, 0, 9, 9, 9], 0),
@@ -56,7 +60,7 @@ static BY_LENGTH: [Worked; 36] = [
     (Find("bb"), "Found(Some(0))", &[9, 1, 0, 2, 9], 1), (Find("c"), "Found(Some(1))", &[9, 1, 0, 2, 9], 1),
     (Find("dd"), "Found(Some(2))", &[9, 1, 0, 2, 9], 2), (Clear, "Done", &[9, 9, 9, 9, 9], 0),
     (Shrink, "Done", &[], 0),
-    // residents wrap around, and those of one home slot keep their order when the table grows
+    // residents wrap around; when the table grows, residents of one home slot keep their order
     (Put("aaaa", 0), "Added", &[9, 9, 9, 9, 0], 0), (Put("bbbb", 1), "Added", &[1, 9, 9, 9, 0], 0),
     (Put("cccc", 2), "Added", &[1, 2, 9, 9, 0], 0), (Put("dddd", 3), "Added", &[1, 2, 3, 9, 0], 0),
     (Put("eeee", 4), "Added", &[9, 9, 9, 9, 0, 1, 2, 3, 4, 9], 0),
@@ -67,7 +71,7 @@ static BY_LENGTH: [Worked; 36] = [
     (Find("dddd"), "Found(None)", &[0, 9, 9, 9, 1], 2),
 ];
 
-/// All keys have one home slot.
+/// Steps on a table that grows, and whose keys all have the same home slot.
 static GROWS: [Worked; 8] = [
     (Find("a"), "Found(None)", &[], 0),
     (Reserve(0), "Done", &[], 0),
@@ -79,14 +83,16 @@ static GROWS: [Worked; 8] = [
     (Find("z"), "Found(None)", &[0, 1, 2, 3, 4, 9, 9, 9, 9, 9], 6),
 ];
 
-/// A table created with capacity for one entry.
+/// Steps on a table that is created with capacity for one entry.
 static ONE_SLOT: [Worked; 3] = [
     (Put("a", 0), "Added", &[0], 0),
     (Find("a"), "Found(Some(0))", &[0], 1),
     (Find("b"), "Found(None)", &[0], 1),
 ];
 
-/// A table created with capacity for three entries is filled to the last slot, and a removal makes it no longer full.
+/// Steps on a table that is created with capacity for three entries.
+///
+/// All slots are filled, and a removal empties the last slot.
 static THREE_SLOTS: [Worked; 7] = [
     (Put("a", 0), "Added", &[0, 9, 9], 0),
     (Put("b", 1), "Added", &[0, 1, 9], 0),
@@ -97,7 +103,8 @@ static THREE_SLOTS: [Worked; 7] = [
     (Find("b"), "Found(Some(1))", &[1, 0, 9], 1),
 ];
 
-/// The home slots of a, b, c and d by the fixed hash are 2, 3, 4 and 0 of 5.
+/// Steps on a table of five slots, in which `FixedHash` selects the home slots 2, 3, 4 and 0 for a,
+/// b, c and d.
 static HOMES_OF_FIVE: [Worked; 5] = [
     (Put("a", 0), "Added", &[9, 9, 0, 9, 9], 0),
     (Put("b", 1), "Added", &[9, 9, 0, 1, 9], 0),
@@ -106,7 +113,8 @@ static HOMES_OF_FIVE: [Worked; 5] = [
     (Find("d"), "Found(Some(3))", &[3, 9, 0, 1, 2], 1),
 ];
 
-/// They are 1, 2, 0 and 0 of 3.
+/// Steps on a table of three slots, in which `FixedHash` selects the home slots 1, 2, 0 and 0 for
+/// a, b, c and d.
 static HOMES_OF_THREE: [Worked; 5] = [
     (Put("a", 0), "Added", &[9, 0, 9], 0),
     (Put("b", 1), "Added", &[9, 0, 1], 0),
@@ -115,7 +123,7 @@ static HOMES_OF_THREE: [Worked; 5] = [
     (Find("d"), "Found(None)", &[2, 0, 1], 2),
 ];
 
-/// Asserts the effect of each of these steps on an empty table.
+/// Asserts the effect of each step of `rows` on `table`, which is empty at first.
 fn follows<H: KeyHash + Drop>(rt: &impl Host, mut table: Table<u64, H>, rows: &[Worked]) {
     for (step, want, positions, looks) in rows {
         replies(rt, &mut table, *step, Way::Run, want);
@@ -138,7 +146,9 @@ fn tables_slot_by_slot(rt: HostRuntime) {
     follows::<FixedHash>(&rt, roomy(&rt, 3), &HOMES_OF_THREE);
 }
 
-/// A table has five slots for four entries of its capacity.
+/// Checks the number of slots of tables, and the fixed hash of some keys.
+///
+/// A table has five slots for every four entries of its capacity.
 #[test]
 fn hashes_and_slots(rt: HostRuntime) {
     for (capacity, slots) in [(0, 0), (1, 1), (3, 3), (4, 5), (8, 10), (10, 12)] {
@@ -153,14 +163,16 @@ fn hashes_and_slots(rt: HostRuntime) {
     drop(table);
 }
 
-/// Inserts a key and returns the number of inspections.
+/// Inserts `key`, and returns the number of inspections.
 fn insertion(table: &mut Table<u64, ByLength>, key: IString) -> Result<u128, ReserveError> {
     let mut looks = Looks::new();
     table.insert_counted(key, 7, &mut looks)?;
     Ok(looks.count())
 }
 
-/// The first key is inserted again. The rebuild after growing is not counted.
+/// Checks the number of inspections of each insertion.
+///
+/// The first key is inserted twice. Filling the slots again after growth is not counted.
 #[test]
 fn insertions_count_their_looks(rt: HostRuntime) {
     let (rt, mut table) = (&rt, Table::new(rt.alloc()));
@@ -172,7 +184,10 @@ fn insertions_count_their_looks(rt: HostRuntime) {
     drop(table);
 }
 
-/// The lookup of a key inspects the slots of the keys inserted before it, and its own; that of a missing key, one slot more than all.
+/// Checks how many slots a lookup inspects if all keys have the same home slot.
+///
+/// The lookup of a key inspects its own slot and the slots of the keys inserted before it. The
+/// lookup of a missing key inspects the slots of all keys and one more slot.
 #[test]
 fn lookups_count_each_slot(rt: HostRuntime) {
     for count in [20u16, 200] {
@@ -189,7 +204,8 @@ fn lookups_count_each_slot(rt: HostRuntime) {
     }
 }
 
-/// Keys, whose values are their indices, and the entries of a table built from them.
+/// Lists of keys, whose values are their indices, each with the debug output of the table built
+/// from the list.
 ///
 /// A duplicate key keeps its first index and its last value.
 static MADE: [(&[&str], &str); 4] = [
@@ -202,7 +218,7 @@ static MADE: [(&[&str], &str); 4] = [
     ),
 ];
 
-/// Returns a table of these keys, from a list with spare capacity.
+/// Returns a table built from a list of `keys` with spare capacity.
 fn made(rt: &impl Host, keys: &[&str]) -> Result<Fixed, ReserveError> {
     let mut pairs = granted!(rt; Vec::with_capacity(rt.alloc(), 9));
     for (letters, value) in keys.iter().zip(0..) {

@@ -1,4 +1,4 @@
-//! Values that are built by calls, part by part.
+//! Functions that build values from lists of parts.
 
 use crate::array::IArray;
 use crate::number::{INumber, ParseNumberError};
@@ -10,35 +10,35 @@ use crate::value::IValue;
 use std::alloc::{AllocError, Global};
 use std::process::Abort;
 
-/// A part of a value. The parts of an array or object come before it.
+/// A part of a value. In a list of parts, an array or object follows its own parts.
 #[derive(Clone, Copy)]
 pub enum Part {
     Null,
     Bool(bool),
-    /// A number by its text.
+    /// The number of this decimal text.
     Number(&'static str),
     Text(&'static str),
-    /// The array of the last values, by their count.
+    /// An array of this number of preceding values.
     Array(usize),
-    /// The object of the last values, by their keys.
+    /// An object with these keys, whose values are the preceding values.
     Object(&'static [&'static str]),
-    /// The array of the numbers below a count.
+    /// The array of the numbers below this count.
     Numbers(usize),
-    /// The object of the numbers below a count, each with one character as its key, from U+4E00 on.
+    /// The object of the numbers below this count, whose keys are single characters from U+4E00 on.
     Characters(u16),
 }
 
-/// Returns an empty array of this capacity.
+/// Returns an empty array with the capacity `capacity`.
 pub fn array_with(rt: &impl Abort, alloc: Global, capacity: usize) -> IArray {
     granted!(rt; IArray::with_capacity(alloc, capacity))
 }
 
-/// Returns an empty object of this capacity.
+/// Returns an empty object with the capacity `capacity`.
 pub fn object_with(rt: &impl Abort, alloc: Global, capacity: usize) -> IObject {
     granted!(rt; ReserveError::Memory; IObject::with_capacity(alloc, capacity))
 }
 
-/// Moves the last `count` values to an array without spare capacity.
+/// Moves the last `count` of `values` to an array without spare capacity.
 fn array_of(rt: &impl Abort, alloc: Global, values: &mut IArray, count: usize) -> IArray {
     let mut array = array_with(rt, alloc, count);
     let first = values.len().wrapping_sub(count);
@@ -49,14 +49,14 @@ fn array_of(rt: &impl Abort, alloc: Global, values: &mut IArray, count: usize) -
     array
 }
 
-/// Inserts an entry with a new key into an object that has capacity for it.
+/// Inserts an entry with a new key into `object`, which has spare capacity.
 pub fn insert_new(rt: &impl Abort, object: &mut IObject, key: IString, value: IValue) {
     let before = object.insert(key, value).expect(rt, "room");
     assert!(*rt; before.is_none());
     drop(before);
 }
 
-/// Moves the last values, one for each key, to an object without spare capacity.
+/// Moves the last values, one for each of `keys`, to an object without spare capacity.
 fn object_of(rt: &impl Abort, alloc: Global, values: &mut IArray, keys: &[&str]) -> IObject {
     let mut object = object_with(rt, alloc, keys.len());
     let first = values.len().wrapping_sub(keys.len());
@@ -76,7 +76,7 @@ fn numbers(rt: &impl Abort, alloc: Global, count: usize) -> IArray {
     array
 }
 
-/// Returns the object of the numbers below `count`.
+/// Returns the object of the numbers below `count`, with single characters as keys.
 fn characters(rt: &impl Abort, alloc: Global, count: u16) -> IObject {
     let mut object = object_with(rt, alloc, usize::from(count));
     for number in 0..count {
@@ -88,7 +88,8 @@ fn characters(rt: &impl Abort, alloc: Global, count: u16) -> IObject {
     object
 }
 
-/// Returns the value of a part, whose own parts are the last of these values.
+/// Returns the value of `part`. Elements of an array and values of an object are moved out of
+/// `values`.
 fn value_of(rt: &impl Abort, alloc: Global, values: &mut IArray, part: Part) -> IValue {
     match part {
         Part::Null => IValue::NULL,
@@ -104,7 +105,7 @@ fn value_of(rt: &impl Abort, alloc: Global, values: &mut IArray, part: Part) -> 
     }
 }
 
-/// Returns the value of these parts. No array or object in it has spare capacity.
+/// Returns the value built from `parts`. The arrays and objects in it lack spare capacity.
 pub fn built(rt: &impl Abort, alloc: Global, parts: &[Part]) -> IValue {
     let mut values = array_with(rt, alloc, parts.len());
     for &part in parts {

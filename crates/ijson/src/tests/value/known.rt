@@ -1,4 +1,7 @@
-//! Values of all kinds: queries, debug output, order, words for hashers, copies, and what is left after the content is taken or cleared.
+//! Tests of the properties of values of all kinds.
+//!
+//! The properties are queries, debug output, order, words for hashers, copies, and the value that
+//! remains after its content is taken or cleared.
 
 use super::built::Part::{self, Array, Bool, Characters, Null, Number, Numbers, Object, Text};
 use super::built::built;
@@ -11,26 +14,31 @@ use std::alloc::{AllocError, Global};
 use std::cmp::Ordering;
 use std::process::Abort;
 
-/// A value that is built, and what is known of it.
+/// A value, built from `parts`, with its expected properties.
 struct Known {
     parts: &'static [Part],
-    /// Values of the same rank are equal. Any others are ordered by their ranks, but two objects are not ordered.
+    /// Values of the same rank are equal. Values of different ranks are ordered by rank, unless
+    /// both are objects, which are not ordered.
     rank: usize,
     shown: &'static str,
-    /// The debug output with a width of 6, if it differs: as in std, a Boolean in a list is padded, and a string is not.
+    /// The debug output with a width of 6, if it differs from `shown`.
+    ///
+    /// As in std, a width pads a Boolean, also in a list, but not a string.
     wide: &'static [&'static str],
-    /// The words that it feeds a hasher, none if they are not stated.
+    /// The words that the value feeds a hasher, or an empty list if the words are not checked.
     words: &'static [u64],
 }
 
-/// The table of rows of rank, parts, debug output and words.
+/// Creates a table of `Known` from rows of a rank, parts, debug output and words.
 macro_rules! known {
     ($($rank:literal: $parts:tt $shown:literal $(/ $wide:literal)? [$($word:literal),*])*) => {
         [$(Known { parts: &$parts, rank: $rank, shown: $shown, wide: &[$($wide)?], words: &[$($word),*] }),*]
     };
 }
 
-/// Strings are quoted and escaped like `str`.
+/// Values of all kinds, in ascending order of their ranks.
+///
+/// Debug output quotes and escapes strings like `str`.
 static KNOWN: [Known; 41] = known! {
     0: [Null] "null" [0]
     1: [Bool(false)] "false" / " false" [1, 0]
@@ -90,7 +98,10 @@ static KNOWN: [Known; 41] = known! {
     r#"{"a": 1, "b": [2, 3], "c": {"d": 0.5}}"# []
 };
 
-/// Returns the kind of the value with this last part, the name of the kind, its length, and its debug output after it is emptied.
+/// Returns the expected properties of a value whose last part is `part`.
+///
+/// The properties are the kind, the name of the kind, the length, and the debug output after the
+/// value is emptied.
 fn summary(part: Part) -> (ValueType, &'static str, Option<usize>, &'static str) {
     match part {
         Null => (ValueType::Null, "Null", None, "null"),
@@ -104,7 +115,7 @@ fn summary(part: Part) -> (ValueType, &'static str, Option<usize>, &'static str)
     }
 }
 
-/// Returns `true` if a value is of this kind alone, by each query for a kind.
+/// Returns `true` if each query for a kind reports that `value` is of the kind `kind` and no other.
 pub fn is_of_kind(value: &IValue, kind: ValueType) -> bool {
     let queries = [
         (ValueType::Null, value.is_null()),
@@ -126,7 +137,7 @@ pub fn is_of_kind(value: &IValue, kind: ValueType) -> bool {
         && (value.destructure_ref() == DestructuredRef::Null) == (kind == ValueType::Null)
 }
 
-/// Asserts the results of the queries about a value with this last part.
+/// Asserts the results of the queries of a value whose last part is `last`.
 fn is_queried(rt: &impl Abort, value: &IValue, last: Part) {
     let (kind, _, len, _) = summary(last);
     assert!(*rt; is_of_kind(value, kind) && value.len() == len);
@@ -140,7 +151,9 @@ fn is_queried(rt: &impl Abort, value: &IValue, last: Part) {
     assert!(*rt; value.is_false() == (truth == Some(false)));
 }
 
-/// Asserts that a value feeds these words, if there are any, and that an array or object in it feeds the same.
+/// Asserts that `value`, and the array or object in it, feed a hasher exactly `words`.
+///
+/// If `words` is empty, nothing is asserted.
 fn feeds_whole(rt: &impl Abort, value: &IValue, words: &[u64]) {
     if words.is_empty() {
         return;
@@ -153,21 +166,22 @@ fn feeds_whole(rt: &impl Abort, value: &IValue, words: &[u64]) {
     }
 }
 
-/// Copies a value. The copy has no spare capacity.
+/// Returns a copy of `value`, and asserts that the copy is equal and lacks spare capacity.
 fn copied(rt: &impl Abort, value: &IValue) -> IValue {
     let copy = granted!(rt; value.clone());
     assert!(*rt; copy == *value && capacity_of(&copy) == value.len());
     copy
 }
 
-/// Copies elements into an array.
+/// Asserts that an array created from `items` has equal elements and lacks spare capacity.
 fn copies_items(rt: &impl Abort, alloc: Global, items: &[IValue]) {
     let array = granted!(rt; IArray::from_slice(alloc, items));
     assert!(*rt; array.as_slice() == items && array.capacity() == items.len());
     drop(array);
 }
 
-/// Copies an array by its own call, and its elements.
+/// Asserts that a copy of `array` and a new array of its elements equal `array`, without spare
+/// capacity.
 fn copies_array(rt: &impl Abort, alloc: Global, array: &IArray) {
     let copy = granted!(rt; array.clone());
     assert!(*rt; copy == *array && copy.capacity() == array.len());
@@ -175,14 +189,14 @@ fn copies_array(rt: &impl Abort, alloc: Global, array: &IArray) {
     copies_items(rt, alloc, array.as_slice());
 }
 
-/// Copies an object by its own call.
+/// Asserts that a copy of `object` is equal to it and lacks spare capacity.
 fn copies_object(rt: &impl Abort, object: &IObject) {
     let copy = granted!(rt; object.clone());
     assert!(*rt; copy == *object && copy.capacity() == object.len());
     drop(copy);
 }
 
-/// Copies a value in each way.
+/// Asserts that each call that copies `value`, or the array or object in it, returns an equal copy.
 fn copies(rt: &impl Abort, alloc: Global, value: &IValue) {
     drop(copied(rt, value));
     match value.destructure_ref() {
@@ -192,7 +206,9 @@ fn copies(rt: &impl Abort, alloc: Global, value: &IValue) {
     }
 }
 
-/// Copies a value in each way, without an allocation if it has one part, and then two values together.
+/// Asserts that each call that copies the value `known` returns an equal copy.
+///
+/// Copying a value of one part must not allocate. At the end, a slice of two such values is copied.
 fn is_copied(rt: &impl Abort, alloc: Global, known: &Known) {
     let value = built(rt, alloc, known.parts);
     if known.parts.len() == 1 {
@@ -205,7 +221,10 @@ fn is_copied(rt: &impl Abort, alloc: Global, known: &Known) {
     drop(items);
 }
 
-/// Asserts the debug output of mutable content, which differs for a Boolean.
+/// Asserts the debug output of the mutable content `value`.
+///
+/// The debug output of a Boolean's content contains `shown`. Other content has the debug output
+/// `want`.
 fn is_shown_mutable(
     rt: &impl Abort,
     alloc: Global,
@@ -222,12 +241,13 @@ fn is_shown_mutable(
     }
 }
 
-/// Returns the debug output of the content of a value. The content of null is `Null`.
+/// Returns the expected debug output of the content of a value, which is `Null` for null.
 fn opened<'a>(name: &'a str, shown: &'a str) -> &'a str {
     if name == "Null" { name } else { shown }
 }
 
-/// Gets the content of a value in each way, and asserts its debug output.
+/// Asserts the debug output of the content of `value`, as returned by each call that destructures
+/// it.
 fn is_opened(rt: &impl Abort, alloc: Global, mut value: IValue, name: &str, shown: &str) {
     let text = granted!(rt; format!(in alloc; "{name}({shown})"));
     let want = opened(name, &text);
@@ -239,7 +259,7 @@ fn is_opened(rt: &impl Abort, alloc: Global, mut value: IValue, name: &str, show
     drop(content);
 }
 
-/// Asserts the debug output of a value, also with a width.
+/// Asserts the debug output of `value` without a width and with a width of 6.
 fn are_shown(rt: &impl Abort, alloc: Global, value: &IValue, known: &Known) {
     is_shown(rt, alloc, value, known.shown);
     let want = *known.wide.first().unwrap_or(&known.shown);
@@ -247,7 +267,7 @@ fn are_shown(rt: &impl Abort, alloc: Global, value: &IValue, known: &Known) {
     assert!(*rt; text.as_str() == want, "{text} is not {want}");
 }
 
-/// Asserts what is known of a value but its rank.
+/// Asserts the properties of the value `known`, except its rank.
 fn is_known(rt: &impl Abort, alloc: Global, known: &Known) {
     let value = built(rt, alloc, known.parts);
     are_shown(rt, alloc, &value, known);
@@ -285,7 +305,8 @@ fn objects(rt: HostRuntime) {
     are_known(&rt, rt.alloc(), &KNOWN[29..]);
 }
 
-/// Asserts the order of two values and of their contents, and that equal values have equal hashes.
+/// Asserts that the order of two values is `want`, and that equal values have equal contents and
+/// hashes.
 fn are_ordered(rt: &impl Abort, left: &IValue, right: &IValue, want: Option<Ordering>) {
     let is_equal = want == Some(Ordering::Equal);
     assert!(*rt; (left == right) == is_equal && (left != right) != is_equal);
@@ -295,7 +316,7 @@ fn are_ordered(rt: &impl Abort, left: &IValue, right: &IValue, want: Option<Orde
     assert!(*rt; !is_equal || hash_of(left) == hash_of(right));
 }
 
-/// Asserts the order of a value and each of the others.
+/// Asserts the order of `value`, which has the rank `rank`, and each of `others`.
 fn is_ordered(rt: &impl Abort, value: &IValue, rank: usize, others: &[(usize, IValue)]) {
     for (other_rank, other) in others {
         let want = if rank != *other_rank && value.is_object() && other.is_object() {

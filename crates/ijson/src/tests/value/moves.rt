@@ -1,4 +1,6 @@
-//! Moves of values into containers and out of them, and of contents out of values. None of them allocates.
+//! Tests of moving values into and out of containers, and contents out of values.
+//!
+//! These moves must not allocate.
 
 use super::built::Part::Characters;
 use super::built::{array_with, built, insert_new, object_with};
@@ -12,7 +14,7 @@ use crate::value::{Destructured, DestructuredMut, DestructuredRef, IValue, Value
 use std::alloc::Global;
 use std::process::Abort;
 
-/// Returns the capacity of an array or object.
+/// Returns the capacity of the array or object in `value`, or `None` for another kind.
 pub fn capacity_of(value: &IValue) -> Option<usize> {
     match value.destructure_ref() {
         DestructuredRef::Array(array) => Some(array.capacity()),
@@ -21,7 +23,7 @@ pub fn capacity_of(value: &IValue) -> Option<usize> {
     }
 }
 
-/// Returns the capacity of an array or object moved out of a value.
+/// Moves the array or object out of `value`, and returns its capacity.
 fn capacity_given(value: IValue) -> Option<usize> {
     match value.into_array() {
         Ok(array) => Some(array.capacity()),
@@ -29,7 +31,9 @@ fn capacity_given(value: IValue) -> Option<usize> {
     }
 }
 
-/// Moves the part of a value out and back, and returns the value and whether it had one.
+/// Moves the number, string, array or object out of `value` and back.
+///
+/// Returns the value, and `true` if content was moved.
 fn handed_back(value: IValue) -> (IValue, bool) {
     let value: IValue = match value.into_number() {
         Ok(number) => return (IValue::from(number), true),
@@ -49,7 +53,7 @@ fn handed_back(value: IValue) -> (IValue, bool) {
     }
 }
 
-/// Takes a value apart, and builds it again.
+/// Destructures `value`, and builds it again from its content.
 fn reopened(value: IValue) -> IValue {
     match value.destructure() {
         Destructured::Null => IValue::NULL,
@@ -61,7 +65,9 @@ fn reopened(value: IValue) -> IValue {
     }
 }
 
-/// Takes a value of a kind, which leaves null, moves its content and its part out and back, and returns it.
+/// Asserts that taking `value`, which has the kind `kind`, leaves null. Returns the value taken.
+///
+/// The content of the value is moved out and back in two ways.
 pub fn is_taken(rt: &impl Abort, mut value: IValue, kind: ValueType) -> IValue {
     let taken = value.take();
     assert!(*rt; value.is_null() && is_of_kind(&taken, kind));
@@ -71,7 +77,7 @@ pub fn is_taken(rt: &impl Abort, mut value: IValue, kind: ValueType) -> IValue {
     back
 }
 
-/// Writes the negated, or the empty value, of each kind.
+/// Negates a Boolean, sets a number to 0, and empties a string, array or object.
 fn empty(value: &mut IValue) {
     match value.destructure_mut() {
         DestructuredMut::Null => {}
@@ -83,7 +89,7 @@ fn empty(value: &mut IValue) {
     }
 }
 
-/// Like `empty`, through the reference to the part of each kind; a Boolean stays.
+/// Like `empty`, but through the methods `as_.._mut`. A Boolean is unchanged.
 fn empty_part(value: &mut IValue) {
     if let Some(number) = value.as_number_mut() {
         set(number, INumber::zero());
@@ -99,7 +105,9 @@ fn empty_part(value: &mut IValue) {
     }
 }
 
-/// Empties a value, or its part, which keeps a Boolean, and takes the rest. The capacity stays.
+/// Asserts that `value` has the debug output `left` after it is emptied, and keeps its capacity.
+///
+/// If `by_part` is set, `empty_part` empties the value, and a Boolean must be unchanged.
 pub fn is_emptied(rt: &impl Abort, alloc: Global, mut value: IValue, by_part: bool, left: &str) {
     let (kind, truth, capacity) = (value.type_(), value.to_bool(), capacity_of(&value));
     if by_part {
@@ -117,7 +125,9 @@ pub fn is_emptied(rt: &impl Abort, alloc: Global, mut value: IValue, by_part: bo
     drop(value);
 }
 
-/// Moves a value into an array that has capacity for two, and out of it, by each call that does so.
+/// Moves `value` into `array` and out again, by each call that can, and returns `value`.
+///
+/// `array` must be empty and have capacity for two elements.
 fn through_array(rt: &impl Abort, mut array: IArray, value: IValue) -> IValue {
     array.push(value).expect(rt, "room");
     array.insert(0, IValue::NULL).expect(rt, "room");
@@ -134,7 +144,9 @@ fn through_array(rt: &impl Abort, mut array: IArray, value: IValue) -> IValue {
     value
 }
 
-/// Moves a value into an object that has capacity for it, and out of it, by each call that does so.
+/// Moves `value` into `object` and out again, by each call that can, and returns `value`.
+///
+/// `object` must be empty and have capacity for an entry.
 fn through_object(rt: &impl Abort, alloc: Global, mut object: IObject, value: IValue) -> IValue {
     insert_new(rt, &mut object, key(rt, alloc, "k"), value);
     let value = object.remove("k").expect(rt, "a value");
@@ -150,7 +162,7 @@ fn through_object(rt: &impl Abort, alloc: Global, mut object: IObject, value: IV
     value
 }
 
-/// Moves a value out of an iterator over an array.
+/// Moves `value` into `array`, and out again by an iterator.
 fn through_items(rt: &impl Abort, mut array: IArray, value: IValue) -> IValue {
     array.push(value).expect(rt, "room");
     let mut items = array.into_iter();
@@ -159,7 +171,7 @@ fn through_items(rt: &impl Abort, mut array: IArray, value: IValue) -> IValue {
     value
 }
 
-/// Moves a value out of an iterator over an object.
+/// Moves `value` into `object`, and out again by an iterator.
 fn through_pairs(rt: &impl Abort, alloc: Global, mut object: IObject, value: IValue) -> IValue {
     insert_new(rt, &mut object, key(rt, alloc, "k"), value);
     let mut pairs = object.into_iter();
@@ -169,7 +181,10 @@ fn through_pairs(rt: &impl Abort, alloc: Global, mut object: IObject, value: IVa
     value
 }
 
-/// Moves an array or object of one number in each way and empties it, and asserts that its capacity stays.
+/// Asserts that an array or object of one number keeps the capacity `want` when it is moved and
+/// emptied.
+///
+/// The moves must not allocate.
 fn keeps_capacity(rt: &impl Abort, alloc: Global, value: IValue, want: usize) {
     let (array, items) = (array_with(rt, alloc, 2), array_with(rt, alloc, 1));
     let (object, pairs) = (object_with(rt, alloc, 1), object_with(rt, alloc, 1));

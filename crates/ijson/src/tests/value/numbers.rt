@@ -1,4 +1,4 @@
-//! Values from integers and options, and integers from values.
+//! Tests of conversions from integers and options to values, and from values to integers.
 
 use super::built::Part::{self, Number, Text};
 use super::built::built;
@@ -7,7 +7,9 @@ use crate::value::IValue;
 use std::alloc::Global;
 use std::process::Abort;
 
-/// Values, and the integer that each denotes. A type of integers without it converts to none.
+/// Parts of values, each with the integer that its value equals, if any.
+///
+/// The conversion to an integer type returns `None` if the type does not contain the integer.
 #[rattlefmt::skip]
 static INTEGERS: [(Part, Option<i128>); 12] = [
     (Number("2.0"), Some(2)), (Number("-1"), Some(-1)), (Number("2.5"), None), (Text("2"), None),
@@ -18,7 +20,8 @@ static INTEGERS: [(Part, Option<i128>); 12] = [
     (Number("18446744073709551615"), Some(18446744073709551615)),
 ];
 
-/// Returns `true` if a value converts to this integer in each type that has it.
+/// Returns `true` if `value` converts to `integer` in each integer type that contains it, and to
+/// `None` in the other types.
 fn is_integer(value: &IValue, integer: Option<i128>) -> bool {
     value.to_i32() == in_type(integer)
         && value.to_u32() == in_type(integer)
@@ -39,7 +42,7 @@ fn integers(rt: HostRuntime) {
     }
 }
 
-/// Asserts the debug output of a value that was converted.
+/// Asserts the debug output of the value that `from` is converted to.
 fn is_value<T: Into<IValue>>(rt: &impl Abort, alloc: Global, from: T, want: &str) {
     let value = counted!(alloc; from.into());
     is_shown(rt, alloc, &value, want);

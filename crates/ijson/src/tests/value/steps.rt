@@ -1,4 +1,6 @@
-//! Values read, written, removed and added at an index or a key, and callers that know a value after a write by the contracts alone.
+//! Tests of reading, writing, removing and adding values at an index or a key.
+//!
+//! The contracts of some callers state the whole value after a write.
 ghost use Rattle.std.specs.Prelude.{◌≡◌, IsSome, IsTrue, IsFalse, not};
 ghost use Rattle.ijson_value.specs.Kind.{kind_of};
 ghost use Rattle.ijson_value.specs.declared.value.ValueType.TheVariants as kind;
@@ -14,7 +16,7 @@ use crate::value::{Destructured, IValue};
 use std::alloc::Global;
 use std::process::Abort;
 
-/// Sets the value at an index to null.
+/// Sets the element at the index `position` to null.
 #[tactic(auto, using(ijson_value::specs::laws::Steps::tree_with_step))]
 fn clear_item(value: &mut IValue, position: usize)
     requires { IsSome (tree_at value.old.tree (by_position position)) }
@@ -23,7 +25,7 @@ fn clear_item(value: &mut IValue, position: usize)
     value[position] = IValue::NULL;
 }
 
-/// Sets the value of a key to null, if it exists.
+/// Sets the value of `key` to null, and returns `true` if the key exists.
 #[tactic(auto, using(ijson_value::specs::laws::Steps::tree_with_step))]
 fn clear_member(value: &mut IValue, key: &str) -> bool
     requires { kind_of value.old.tree ≡ kind_for (by_key key.now) }
@@ -39,7 +41,7 @@ fn clear_member(value: &mut IValue, key: &str) -> bool
     }
 }
 
-/// Negates a Boolean.
+/// Negates the Boolean `value`, which is equal to `was`.
 fn turn(value: &mut IValue, was: bool)
     requires { value.old.tree ≡ boolean was }
     ensures { value.new.tree ≡ boolean (not was) }
@@ -49,7 +51,8 @@ fn turn(value: &mut IValue, was: bool)
     }
 }
 
-/// Sets the second element of the array of `b` to null.
+/// Sets the second element of the array at the key `b` to null, and returns `true` if the element
+/// exists.
 fn edit(value: &mut IValue) -> bool
     requires { kind_of value.old.tree ≡ kind.Object }
 {
@@ -63,7 +66,7 @@ fn edit(value: &mut IValue) -> bool
     true
 }
 
-/// A step into a value: by an index, or by a key in each of its types.
+/// A step into a value: an index, or a key of type `&str`, `&&str` or `&IString`.
 #[derive(Clone, Copy)]
 enum Step {
     Index(usize),
@@ -72,29 +75,33 @@ enum Step {
     Interned(&'static str),
 }
 
-/// A call of a value, which keeps its capacity.
+/// A call on a value. Each call keeps the capacity of the value.
 #[derive(Clone, Copy)]
 enum Call {
     Get(Step),
-    /// Writes a number. The reply is the old value.
+    /// Writes a number at a step. The reply is the old value.
     Put(Step, usize),
     Remove(Step),
-    /// Writes a number at a key, which is added if it is missing. The reply is the old value, or null.
+    /// Sets the value of a key to a number; a missing key is added. The reply is the old value, or
+    /// null.
     Insert(&'static str, usize),
-    /// Appends a number to the array in the value, and reverses the elements twice.
+    /// Appends a number to the array, and reverses the elements twice.
     Push(usize),
-    /// `clear_member`, which replies whether the key exists.
+    /// Calls `clear_member`. The reply is `true` if the key exists.
     Clear(&'static str),
-    /// `edit`, which replies whether the element exists.
+    /// Calls `edit`. The reply is `true` if the element exists.
     Edit,
-    /// `turn` of `true`.
+    /// Calls `turn` for the value true.
     Turn,
 }
 
 use Call::{Clear, Edit, Get, Insert, Push, Put, Remove, Turn};
 use Step::{Index, Interned, Key, Reference};
 
-/// The table of scripts: the parts of a value, calls of it, the debug output of each reply, and that of the value then, unless it is as it was.
+/// Creates a table of scripts.
+///
+/// A script has the parts of a value, calls with the debug output of their replies, and the debug
+/// output of the resulting value, or `None` if the value is unchanged.
 macro_rules! scripts {
     ($($parts:tt { $($call:expr => $reply:expr),* } $left:expr;)*) => {
         [$((&$parts, &[$(($call, $reply)),*], $left)),*]
@@ -133,7 +140,7 @@ static SCRIPTS: [(&[Part], &[(Call, Option<&str>)], Option<&str>); 7] = scripts!
     } None;
 };
 
-/// Gives the step to a call of the value, as an index or as a key in its type.
+/// Calls a method of the value with the index or the key of a step.
 macro_rules! step {
     ($rt:expr, $alloc:expr; $value:ident.$call:ident($step:expr)) => {
         match $step {
@@ -160,25 +167,25 @@ macro_rules! step {
     };
 }
 
-/// Returns the value at a step.
+/// Returns the value at `step` in `value`, if any.
 fn found<'a>(rt: &impl Abort, alloc: Global, value: &'a IValue, step: Step) -> Option<&'a IValue> {
     step!(rt, alloc; value.get(step))
 }
 
-/// Replaces a value by a number.
+/// Replaces the value in `place` by `number`, and returns the old value.
 fn replaced(place: &mut IValue, number: usize) -> Option<IValue> {
     let old = place.take();
     set(place, IValue::from(number));
     Some(old)
 }
 
-/// Replaces the value of a key, or null, by a number.
+/// Sets the value of `key` to `number`, and returns the old value, or null if the key was missing.
 fn inserted(rt: &impl Abort, value: &mut IValue, key: IString, number: usize) -> Option<IValue> {
     assert!(*rt; value.is_object());
     replaced(value.index_or_insert(key).expect(rt, "room"), number)
 }
 
-/// Appends a number to the array in a value, and reverses the elements twice.
+/// Appends `number` to the array in `value`, and reverses the elements twice.
 fn pushed(rt: &impl Abort, value: &mut IValue, number: usize) -> Option<IValue> {
     let array = value.as_array_mut().expect(rt, "an array");
     array.push(IValue::from(number)).expect(rt, "room");
@@ -187,7 +194,7 @@ fn pushed(rt: &impl Abort, value: &mut IValue, number: usize) -> Option<IValue> 
     None
 }
 
-/// Makes a change, and returns its reply.
+/// Makes the call `call` on `value`, and returns its reply.
 fn changed(rt: &impl Abort, alloc: Global, value: &mut IValue, call: Call) -> Option<IValue> {
     match call {
         Get(_) => None,
@@ -211,7 +218,7 @@ fn changed(rt: &impl Abort, alloc: Global, value: &mut IValue, call: Call) -> Op
     }
 }
 
-/// Asserts the debug output of a reply, or that there is none.
+/// Asserts that `reply` has the debug output `want`, or that both are `None`.
 fn is_reply(rt: &impl Abort, alloc: Global, reply: Option<&IValue>, want: Option<&str>) {
     assert!(*rt; reply.is_some() == want.is_some());
     if let (Some(value), Some(want)) = (reply, want) {
@@ -219,7 +226,9 @@ fn is_reply(rt: &impl Abort, alloc: Global, reply: Option<&IValue>, want: Option
     }
 }
 
-/// Makes a call, which does not allocate, and asserts its reply and that the capacity stays.
+/// Asserts that the reply to `call` is `want`, and that `value` keeps its capacity.
+///
+/// The call must not allocate.
 fn runs(rt: &impl Abort, alloc: Global, value: &mut IValue, call: Call, want: Option<&str>) {
     let capacity = capacity_of(value);
     if let Get(step) = call {
