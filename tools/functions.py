@@ -63,18 +63,19 @@ def words_of(body):
 def tests():
     """Compares the public calls of the crates that can fail with the tests.
 
-    A test of its folder that is run with each allocation failing makes each such call, in its own body or in a function of its folder, or of `support`, that
-    it calls, directly or not; it asserts something, and returns only at its end. A trait's call is made once, for all its implementations.
+    A test of its folder that is run with each allocation failing makes each such call, in its own body or in a function of its folder, or of a module without
+    tests, that it calls, directly or not; it asserts something, and returns only at its end. A trait's call is made once, for all its implementations.
     """
     folders, made = collections.defaultdict(list), collections.defaultdict(set)
     for function in functions_of(sorted(TOP.glob("crates/ijson/src/tests/**/*.rt"))):
         folders[function.path.with_suffix("").parts[3]].append(function)
+    shared = [function for functions in folders.values() if not any(it.is_test for it in functions) for function in functions]
     for folder, test in ((folder, function) for folder, functions in folders.items() for function in functions):
         if test.is_test and "large" not in test.path.with_suffix("").parts and not re.search(r"\breturn\b|\?;", test.body):
             bodies = [test.body]
             # grows while it is read
             for body in bodies:
-                near = (it for it in [*folders["support"], *folders[folder]] if not it.is_test and it.name in words_of(body))
+                near = (it for it in [*shared, *folders[folder]] if not it.is_test and it.name in words_of(body))
                 bodies += [it.body for it in near if it.body not in bodies]
             if any(re.search(r"\bassert(?:_eq|_ne)?!", body) for body in bodies):
                 made[folder] = made[folder].union(*map(words_of, bodies))

@@ -40,15 +40,19 @@ macro_rules! counted {
 }
 
 mod array;
+mod caches;
 mod canonical;
 mod convert;
+mod hashes;
 mod json;
 mod letters;
 mod merge_patch;
 mod number;
 mod object;
 mod pointer;
+mod shown;
 mod string;
 mod support;
 mod table;
+mod texts;
 mod value;

@@ -8,8 +8,10 @@ ghost use Rattle.ijson_value.specs.Values.{null_value, boolean_value};
 mod large;
 
 use super::letters::{State, letter_in, letter_of, value_of};
-use super::support::{are_same, begin_count, end_count, is_set, is_shown, set};
 use crate::array::{IArray, IntoIter, Refused};
+use crate::tests::hashes::are_same;
+use crate::tests::shown::is_shown;
+use crate::tests::support::{begin_count, end_count, is_set, set};
 use crate::value::IValue;
 use Call::*;
 use std::alloc::{AllocError, Global};

@@ -2,11 +2,12 @@
 
 mod large;
 
-use super::support::{empty_cache, is_written, parsed};
 use crate::array::IArray;
 use crate::canonical::canonical_json;
 use crate::json::{JsonError, from_json, push_separator};
 use crate::number::INumber;
+use crate::tests::caches::empty_cache;
+use crate::tests::texts::{is_written, parsed};
 use crate::value::IValue;
 use std::alloc::{AllocError, Global};
 use std::process::Abort;

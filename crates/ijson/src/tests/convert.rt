@@ -15,10 +15,11 @@ mod large;
 mod literals;
 mod serde;
 
-use super::support::{Cache, empty_cache, interned, is_written, parsed};
 use crate::convert::{ConvertError, FromIValue, ToIValue, from_value, to_value};
 use crate::pointer::Pointer;
 use crate::string::IString;
+use crate::tests::caches::{Cache, empty_cache, interned};
+use crate::tests::texts::{is_written, parsed};
 use crate::value::IValue;
 use indexmap::IndexMap;
 use serde::there_and_back;

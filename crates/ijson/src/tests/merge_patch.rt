@@ -1,7 +1,7 @@
 //! Tests of JSON Merge Patch: the order of entries, and the table of RFC 7396, appendix A.
 
 use crate::merge_patch::merge_patch;
-use crate::tests::support::{is_written, parsed};
+use crate::tests::texts::{is_written, parsed};
 use std::alloc::{AllocError, Global};
 use std::process::Abort;
 

@@ -9,8 +9,10 @@ mod large;
 mod lengths;
 mod order;
 
-use super::support::{feeds, in_type, is_shown};
 use crate::number::{Form, INumber, ParseNumberError};
+use crate::tests::hashes::feeds;
+use crate::tests::shown::is_shown;
+use crate::tests::support::in_type;
 use order::compares;
 use std::alloc::{AllocError, Global};
 use std::cmp::Ordering;

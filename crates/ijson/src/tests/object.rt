@@ -9,10 +9,12 @@ mod shown;
 mod sizes;
 
 use super::letters::{State, letter_in, letter_of, value_of};
-use super::support::{are_same, begin_count, end_count, is_set, key, set};
 use crate::object::{Entry, IObject, RefusedKey, RefusedPair, RefusedReplacement};
 use crate::string::IString;
 use crate::table::ReserveError;
+use crate::tests::caches::key;
+use crate::tests::hashes::are_same;
+use crate::tests::support::{begin_count, end_count, is_set, set};
 use crate::value::IValue;
 use Call::*;
 use std::alloc::{AllocError, Global};

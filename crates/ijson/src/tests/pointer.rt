@@ -2,9 +2,10 @@
 
 mod lent;
 
-use super::support::{is_written, parsed, set};
 use crate::pointer::{Pointer, PointerError, Unresolved, resolve, resolve_mut, resolve_opened_mut};
 use crate::table::ReserveError;
+use crate::tests::support::set;
+use crate::tests::texts::{is_written, parsed};
 use crate::value::{Destructured, DestructuredMut, DestructuredRef, IValue};
 use std::alloc::{AllocError, Global};
 use std::process::Abort;

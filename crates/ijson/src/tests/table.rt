@@ -19,13 +19,15 @@ mod shown;
 mod sizes;
 mod slots;
 
-use super::support::{is_shown, key, set};
 use crate::number::Looks;
 use crate::string::IString;
 use crate::table::{
     Command, FixedHash, FixedTable, KeyHash, LinearPairs, PairStore, Places, RefusedPair, Reply,
     ReserveError, Seen, Table, locate, run,
 };
+use crate::tests::caches::key;
+use crate::tests::shown::is_shown;
+use crate::tests::support::set;
 use std::alloc::{AllocError, Global};
 use std::fmt::Debug;
 use std::process::Abort;

@@ -7,7 +7,8 @@ use crate::convert::ConvertError;
 use crate::object::{RefusedKey, RefusedPair};
 use crate::pointer::{PointerError, Unresolved};
 use crate::table::ReserveError;
-use crate::tests::support::{is_told, key};
+use crate::tests::caches::key;
+use crate::tests::shown::is_told;
 use crate::value::IValue;
 
 /// Errors of a conversion, each with its message and debug output.

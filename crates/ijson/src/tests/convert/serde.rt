@@ -7,7 +7,8 @@ use crate::convert::{
     to_serde_number,
 };
 use crate::number::INumber;
-use crate::tests::support::{Cache, is_written, parsed};
+use crate::tests::caches::Cache;
+use crate::tests::texts::{is_written, parsed};
 use crate::value::{DestructuredRef, IValue};
 use serde_json::Value;
 use std::alloc::Global;

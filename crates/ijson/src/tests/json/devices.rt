@@ -10,7 +10,8 @@ use crate::json::{
     CompactError, DeviceFault, MemorySink, MemorySource, Sink, Source, StreamSink, StreamSource,
     compact, compact_value,
 };
-use crate::tests::support::{Cache, empty_cache, is_written, parsed};
+use crate::tests::caches::{Cache, empty_cache};
+use crate::tests::texts::{is_written, parsed};
 use std::alloc::{AllocError, Global};
 use std::collections::VecDeque;
 use std::io;

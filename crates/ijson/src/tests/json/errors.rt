@@ -4,7 +4,7 @@
 use crate::json::{
     CompactError, DeviceFault, JsonError, MemorySink, Sink, line_and_column, report,
 };
-use crate::tests::support::{is_shown, is_told};
+use crate::tests::shown::{is_shown, is_told};
 use std::alloc::{AllocError, Global};
 use std::process::Abort;
 

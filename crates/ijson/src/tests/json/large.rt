@@ -6,7 +6,7 @@ use super::texts::{
 };
 use super::values::is_copied_deep;
 use super::{Parts, numbered, repeated};
-use crate::tests::support::{is_written, parsed};
+use crate::tests::texts::{is_written, parsed};
 use std::alloc::AllocError;
 
 /// Checks the tables of texts with devices that move 1 and 2 bytes per call.

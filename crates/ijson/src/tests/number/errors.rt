@@ -2,7 +2,7 @@
 
 use super::spelled;
 use crate::number::{INumber, Looks, ParseNumberError, ReadNumberError};
-use crate::tests::support::is_shown;
+use crate::tests::shown::is_shown;
 use std::alloc::{AllocError, Global};
 use std::error::Error;
 use std::process::Abort;

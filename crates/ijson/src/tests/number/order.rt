@@ -2,7 +2,7 @@
 
 use super::spelled;
 use crate::number::{DigitRow, INumber, Looks, compare};
-use crate::tests::support::hash_of;
+use crate::tests::hashes::hash_of;
 use std::alloc::Global;
 use std::cmp::Ordering::{self, Equal, Greater, Less};
 use std::process::Abort;

@@ -8,7 +8,9 @@ use super::spelled;
 use crate::object::IObject;
 use crate::string::IString;
 use crate::table::ReserveError;
-use crate::tests::support::{empty_cache, is_shown, set};
+use crate::tests::caches::empty_cache;
+use crate::tests::shown::is_shown;
+use crate::tests::support::set;
 use crate::value::IValue;
 use std::process::Abort;
 

@@ -4,7 +4,7 @@ use super::{Pair, holds, is_back, is_pair, pair_at, pair_of, spelled};
 use crate::object::{IObject, RefusedPairs};
 use crate::string::IString;
 use crate::table::ReserveError;
-use crate::tests::support::are_same;
+use crate::tests::hashes::are_same;
 use crate::value::IValue;
 use Way::*;
 use indexmap::IndexMap;

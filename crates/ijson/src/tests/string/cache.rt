@@ -3,7 +3,9 @@
 //! After a failed allocation, the cache must be unchanged.
 use self::Call::{Clear, Intern, Show};
 use crate::string::IString;
-use crate::tests::support::{Cache, empty_cache, interned, is_shown, set};
+use crate::tests::caches::{Cache, empty_cache, interned};
+use crate::tests::shown::is_shown;
+use crate::tests::support::set;
 use std::alloc::{AllocError, Global};
 use std::hash::{BuildHasher, BuildHasherDefault, DefaultHasher};
 use std::process::Abort;

@@ -3,7 +3,7 @@
 //! Strings that repeat in the same order are rarely hashed from the third pass on.
 use self::Call::{Clear, Down, Records, Up, UpDown};
 use crate::string::{IString, StringCache};
-use crate::tests::support::interned;
+use crate::tests::caches::interned;
 use std::alloc::{AllocError, Global};
 use std::cell::Cell;
 use std::hash::{BuildHasher, BuildHasherDefault, FoldHasher, Hasher};

@@ -1,7 +1,9 @@
 //! Tests of properties of strings, by a table.
 use self::Property::{Bytes, Debug, Less, Padded, Wide, Words};
 use crate::string::IString;
-use crate::tests::support::{Cache, empty_cache, feeds, interned, is_shown};
+use crate::tests::caches::{Cache, empty_cache, interned};
+use crate::tests::hashes::feeds;
+use crate::tests::shown::is_shown;
 use std::alloc::Global;
 use std::cmp::Ordering;
 use std::process::Abort;

@@ -5,7 +5,7 @@ use crate::number::{INumber, ParseNumberError};
 use crate::object::IObject;
 use crate::string::IString;
 use crate::table::ReserveError;
-use crate::tests::support::key;
+use crate::tests::caches::key;
 use crate::value::IValue;
 use std::alloc::{AllocError, Global};
 use std::process::Abort;

@@ -2,7 +2,8 @@
 
 use super::built::Part::{self, Number, Text};
 use super::built::built;
-use crate::tests::support::{in_type, is_shown};
+use crate::tests::shown::is_shown;
+use crate::tests::support::in_type;
 use crate::value::IValue;
 use std::alloc::Global;
 use std::process::Abort;

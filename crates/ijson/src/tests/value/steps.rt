@@ -11,7 +11,9 @@ use super::built::Part::{self, Array, Bool, Characters, Null, Number, Numbers, O
 use super::built::built;
 use super::moves::capacity_of;
 use crate::string::IString;
-use crate::tests::support::{is_shown, key, set};
+use crate::tests::caches::key;
+use crate::tests::shown::is_shown;
+use crate::tests::support::set;
 use crate::value::{Destructured, IValue};
 use std::alloc::Global;
 use std::process::Abort;
