@@ -1,4 +1,5 @@
--- Lemmas: a fault of the reader is the error of each text in which the fault occurs.
+-- Lemmas: a fault of the reader becomes the error of the whole text (`IsErrorOf`), wherever in the
+-- text the reader stops.
 pub mod StuckTexts
 pub mod StringFaults
 pub mod Contexts

@@ -206,7 +206,8 @@ impl StrippedNumber<'_> {
         push_integer(power < 0, power.unsigned_abs() as u64, out)
     }
 
-    /// Appends a number below 1, or a number of two or more digits in scientific notation.
+    /// Appends a number that prints as `0.` and digits, or in scientific notation with two or more
+    /// digits.
     ///
     /// Returns `None`, with nothing appended, for any other number. Requires that `lanes` ends with
     /// the digits in ASCII if there are at most 16.

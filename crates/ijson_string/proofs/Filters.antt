@@ -82,7 +82,8 @@ module _ (filters : List ℕ) (hash : ℕ) (inside : bucket_of (length filters) 
   AllPass-push [] all = (passes-own, tt)
   AllPass-push (h ∷ hashes) all = (passes-kept h all.0, AllPass-push hashes all.1)
 
--- If `hash` does not pass, the list does not contain a key with this hash.
+-- If each of `hashes` passes the filters and `hash` does not, the list does not contain the key with
+-- this hash and text.
 pub is_nowhere : (filters : List ℕ) (hash : ℕ) (text : List ℕ) (hashes : List ℕ) (texts : List (List ℕ)) → AllPass filters hashes
     → passes filters hash ≡ false
     → list_any (is_key hash text) (keys_of hashes texts) ≡ false

@@ -38,9 +38,9 @@ use std::{fmt, mem, slice};
 
 /// A list of entries, with a hash index: slots that hold the indices of the entries.
 ///
-/// There are five slots for every four entries of the capacity. A slot takes 16 bytes. Up to a
-/// capacity of 127, a slot takes three bytes and keeps only the home slot and eight more bits of a
-/// hash. Up to a capacity of 8, the slots are inline.
+/// There are five slots for every four entries of the capacity. Up to a capacity of 127, a slot
+/// takes three bytes, and keeps the home slot and eight more bits of a hash; up to a capacity of 8,
+/// these slots are inline. Above 127, a slot takes 16 bytes, and keeps the hash.
 ///
 /// # Cost
 ///

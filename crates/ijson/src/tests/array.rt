@@ -266,8 +266,8 @@ fn ends(rt: &impl Abort, alloc: Global, array: IArray, letters: &str) {
     drop(rest_of(rt, alloc, array, letters, letters.len()));
 }
 
-/// Makes the calls of all rows. A row whose first state is not the current state starts with a new
-/// array.
+/// Makes the call of each row of `ROWS` on one array. If the array is not in the row's state before
+/// the call, the row starts with a new array in that state.
 #[test]
 fn calls(rt: HostRuntime) {
     let alloc = rt.alloc();

@@ -570,8 +570,8 @@ fn ends(rt: &impl Abort, alloc: Global, object: IObject, letters: &str) {
     end_count(alloc, 0);
 }
 
-/// Makes the calls of all rows. A row whose first state is not the current state starts with a new
-/// object.
+/// Makes the call of each row of `ROWS` on one object. If the object is not in the row's state before
+/// the call, the row starts with a new object in that state.
 #[test]
 fn calls(rt: HostRuntime) {
     let alloc = rt.alloc();

@@ -78,10 +78,12 @@ impl BuildHasher for CountedState<'_> {
     }
 }
 
-/// The pieces of the reader, whether the hasher is an error, the call that fails, the result, and the calls.
+/// Runs: the pieces that the reader yields, whether the given hasher is an error, the index of the
+/// writer's call that fails (2 if none does), the result, and the number of calls of the writer.
 ///
-/// The calls are those of the writer: a text is written and flushed in two. A reader is not called again after its end or an error, nor is
-/// a writer that failed. The texts are numbers, since the program does not free its value.
+/// Writing and flushing a text takes two calls. The reader must not be called after its end or an
+/// error, and the writer must not be called after it failed. Every text is a number, since the
+/// program does not free its value.
 static RUNS: [(&[Option<&str>], bool, u32, Result<(), CompactError>, u32); 8] = [
     (&[Some("12"), Some("")], false, 2, Ok(()), 2),
     (&[Some("1"), Some("2"), Some("")], false, 2, Ok(()), 2),

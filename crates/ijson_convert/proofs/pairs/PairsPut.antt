@@ -40,8 +40,8 @@ module _ {X : Type 0} {pair : X → List ℕ × Tree} {old : Texts} {ps : List (
           ∙ ap (λ xs. all_interned (members_texts (members_of (map pair xs))) old) (sym grown);
     }
 
-    -- If some leading strings of the entry `x` were interned, so were some leading strings of all
-    -- entries.
+    -- If some leading strings of `x` were interned after all strings of `given`, then some leading
+    -- strings of the list `all` were interned.
     pub one_refused : {all : List X} (rest : List X) → all ≡ given ++ x ∷ rest → {new : Texts}
         → SomeInterned (k ∷ texts_of (pair x).1) cache new → SomeInterned (members_texts (members_of (map pair all))) old new
     one_refused {all} rest parts {new} s = one_begun (entry_strings pair) given x old cache new so_far.texts rest all (sym parts)

@@ -48,7 +48,7 @@ pub digit_small : (b d : ℕ) → hex_digit b ≡ Some d → (d < 16) × (b < 12
 unfolding hex_digit
 digit_small b d h = (grind (arith, nat_tests), grind (arith, nat_tests))
 
--- A code below 65536 is the value of a hexadecimal digit.
+-- If `hex_code o` is below 65536, `o` is `Some` of this code.
 pub code_digit : (o : Option ℕ) (v : ℕ) → v ≡ hex_code o → v < 65536 → o ≡ Some v
 code_digit (Some d) v is less = ap Some (sym is)
 code_digit None v is less = absurd (omega arith)

@@ -21,7 +21,8 @@ no_followers = record { slots = replicate follower_slots no_follower; last = 0; 
 abbrev pub IsFollower : ℕ → ℕ → Followers → Type 0
 IsFollower position len followers = followers.next ≡ record { position = position; len = len }
 
--- The followers after the string at index `position`, of length `len`, was found next.
+-- Records in the followers that the string at index `position`, of length `len`, followed the last
+-- string.
 abbrev pub followed_by : ℕ → ℕ → Followers → Followers
 followed_by position len followers =
     let slots = slice_set followers.slots (followers.last % follower_slots) (record { position = position; len = min len (2 ^ 32 - 1) }) in

@@ -80,8 +80,7 @@ fn tells<E: Debug + Display + Drop>(rt: &impl Abort, alloc: Global, error: E, wa
     drop(error);
 }
 
-/// Reasons, each with the message and the debug output of the error that returns a list for this
-/// reason.
+/// Reasons, each with the message and the debug output of a `RefusedPairs` with this reason.
 static RETURNED: [(ReserveError, &str); 2] = [
     (
         ReserveError::Memory,

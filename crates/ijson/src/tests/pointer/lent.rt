@@ -241,7 +241,8 @@ fn writes(rt: &impl Abort, alloc: Global, letters: &str, there: bool, want: &str
     drop(value);
 }
 
-/// Asserts the text after `put_by_path` sets the value of a key to true, or adds the key.
+/// Asserts that `put_by_path` with the key `letters` changes the value of `TEXT`, which has the key if
+/// `there`, to `want`, and that a failed call changes nothing.
 fn puts(rt: &impl Abort, alloc: Global, letters: &str, there: bool, want: &str) {
     let mut value = object_with(rt, alloc, letters, there);
     if let Err(refused) = put_by_path(&mut value, key(rt, alloc, letters)) {

@@ -15,7 +15,7 @@ use std::process::Abort;
 pub enum Part {
     Null,
     Bool(bool),
-    /// The number of this decimal text.
+    /// The number that this decimal text denotes.
     Number(&'static str),
     Text(&'static str),
     /// An array of this number of preceding values.
