@@ -4,3 +4,4 @@ pub mod IntegerWords
 pub mod BlockDigits
 pub mod Significands
 pub mod WholeValues
+pub mod EqualWords

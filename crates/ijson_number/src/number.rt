@@ -384,8 +384,8 @@ impl PartialEq for INumber {
     ghost laws = { partial_equiv_from_equiv (on_equiv (λ n. n.decimal) number_eq_equiv) };
 
     fn eq(&self, other: &INumber) -> bool {
-        if self.stored.is_same_word(&other.stored) {
-            return true;
+        if let Some(is_same) = self.stored.eq_by_bits(&other.stored) {
+            return is_same;
         }
         let mut buffer = [0; MAX_DIGITS];
         let mut other_buffer = [0; MAX_DIGITS];

@@ -1,5 +1,5 @@
 -- The representation that each kind of stored number denotes.
-use Rattle.std.specs.Prelude.{◌≡◌, ◌↔◌, ⊤}
+use Rattle.std.specs.Prelude.{◌≡◌, ◌≢◌, ◌↔◌, ⊤}
 use Rattle.ijson_number.specs.Decimal.{Decimal}
 use Rattle.ijson_number.specs.Form.{FormOf, packed, signed_word, unsigned_word, digits, form_of}
 use Rattle.ijson_number.specs.FormNumber.{form_number}
@@ -44,10 +44,15 @@ pub record IsCopy (stored copy : Stored) : Type 0 where
   pub form : stored_form copy ≡ stored_form stored
   pub short : IsShort stored ↔ IsShort copy
 
--- Holds if the number is stored as a list of digits.
+-- Holds if the number is stored as digits, in a block or in a list.
 abbrev pub IsList : Stored → Type 0
 IsList (Short number) = ⊤
 IsList (Long number) = ⊤
 IsList (Packed word) = ⊥
 IsList (I64 value) = ⊥
 IsList (U64 value) = ⊥
+
+-- Holds if two stored numbers have different forms, but agree on the decimal point.
+pub record IsOtherWord (stored other : Stored) : Type 0 where
+  pub form : stored_form stored ≢ stored_form other
+  pub point : (stored_decimal stored).point ≡ (stored_decimal other).point

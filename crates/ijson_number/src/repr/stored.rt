@@ -1,7 +1,7 @@
 //! Stored numbers: a word, digits in a block, or digits in a list, and the canonical digits of
 //! each.
 ghost use Rattle.std.specs.Prelude.{◌≡◌, ◌%◌, ◌^◌, ◌<◌, ◌≤◌, ◌≤ℤ◌, nat_abs, true, false, pos, negsuc, IsTrue, ◌+◌, ◌-◌, ◌++◌, drop, length, OnOk};
-ghost use Rattle.std.specs.Prelude.{neg_ℤ, ◌+ℤ◌, ◌<ℤ◌, FitsSigned, IsFalse};
+ghost use Rattle.std.specs.Prelude.{neg_ℤ, ◌+ℤ◌, ◌<ℤ◌, FitsSigned, IsFalse, IsNone, IfSome, ◌≢◌, ◌/◌};
 ghost use Rattle.std.proofs.Props.{props};
 ghost use Rattle.std.specs.Int.Digits.{digits_of};
 ghost use Rattle.std.specs.List.{All};
@@ -50,6 +50,9 @@ pub fn is_packed_mantissa(mantissa: i128) -> bool
 }
 
 impl Word {
+    ghost use Rattle.ijson_number.specs.private.Stored.{IsOtherWord};
+    ghost use Rattle.ijson_number.specs.declared.repr.stored.Stored.TheVariants.{Packed};
+
     /// Creates a word from a mantissa and the value of bits 4 to 7.
     fn from_code(mantissa: i64, code: u64) -> Word
         requires mantissa { IsTrue (fits_packed mantissa) }
@@ -120,6 +123,23 @@ impl Word {
         ensures { result ≡ word_point self.bits }
     {
         self.code() != NO_POINT
+    }
+
+    /// Returns `Some(true)` if the words have the same number and decimal point, `Some(false)` if they
+    /// agree only on the decimal point, and `None` if they do not agree on it.
+    fn eq_by_bits(self, other: Word) -> Option<bool>
+        ensures same { IfSome result (λ is_same. IsTrue is_same → self.bits / 16 ≡ other.bits / 16) }
+        ensures different { IfSome result (λ is_same. IsFalse is_same → IsOtherWord (Packed self) (Packed other)) }
+        ensures points { IsNone result → word_point self.bits ≢ word_point other.bits }
+    {
+        if self.bits / 16 == other.bits / 16 {
+            return Some(true);
+        }
+        if self.point() == other.point() {
+            Some(false)
+        } else {
+            None
+        }
     }
 }
 
@@ -282,18 +302,22 @@ pub enum Stored {
 }
 
 impl Stored {
-    ghost use Rattle.ijson_number.specs.private.Stored.{IsList};
+    ghost use Rattle.ijson_number.specs.private.Stored.{IsList, IsOtherWord, stored_form};
 
-    /// Returns `true` if both numbers are stored as the same word.
-    pub fn is_same_word(&self, other: &Stored) -> bool
-        ensures same { IsTrue result → self.now ≡ other.now }
-        ensures word { IsFalse result → self.now ≡ other.now → IsList self.now }
+    /// Returns `Some(true)` if both numbers are stored as the same word, and `Some(false)` if they are
+    /// stored as different words of one kind that agree on the decimal point.
+    ///
+    /// Returns `None` for all others: their digits decide.
+    pub fn eq_by_bits(&self, other: &Stored) -> Option<bool>
+        ensures same { IfSome result (λ is_same. IsTrue is_same → stored_form self.now ≡ stored_form other.now) }
+        ensures different { IfSome result (λ is_same. IsFalse is_same → IsOtherWord self.now other.now) }
+        ensures digits { IsNone result → stored_form self.now ≡ stored_form other.now → IsList self.now }
     {
         match (self, other) {
-            (Stored::Packed(word), Stored::Packed(other_word)) => word.bits == other_word.bits,
-            (Stored::I64(value), Stored::I64(other_value)) => value == other_value,
-            (Stored::U64(value), Stored::U64(other_value)) => value == other_value,
-            _ => false,
+            (Stored::Packed(word), Stored::Packed(other_word)) => word.eq_by_bits(*other_word),
+            (Stored::I64(value), Stored::I64(other_value)) => Some(value == other_value),
+            (Stored::U64(value), Stored::U64(other_value)) => Some(value == other_value),
+            _ => None,
         }
     }
 }

@@ -1,5 +1,6 @@
-use Rattle.ijson_number.proofs.Common.{◌≡◌, ◌∙◌, ap, sym, arith, rules, FitsSigned, ints, w32, is_eq, Decimal, Num, same_equal, stored_decimal}
+use Rattle.ijson_number.proofs.Common.{◌≡◌, ◌∙◌, ap₂, arith, rules, FitsSigned, ints, w32, Num, number_eq}
 use Rattle.ijson_number.proofs.storing.FormCases.{same_signs, other_signs, digits_tell, signs_tell, exponents_tell}
+use Rattle.ijson_number.proofs.storing.EqualWords.{words_tell}
 use Rattle.ijson_number.proofs.number.INumberPartialEq.eq.Goals.{then-a-b-via-then-a-b, then-a-b-via-else-a-b+then-a-b-2}
 use Rattle.ijson_number.proofs.number.INumberPartialEq.eq.Goals as goal
 
@@ -21,10 +22,8 @@ returns c =
     digits_tell x y _ _ c.stripped-a.ensures c.stripped-b.ensures c.eq.result (same_signs x.negative y.negative c.if-a-b.false) same
     c.eq.ensures
 
-pub returns-then-is_same_word : goal.returns-then-is_same_word
-returns-then-is_same_word c =
-    let a = c.args.self.now.decimal in
-    let b = c.args.other.now.decimal in
-    let same : a ≡ b = sym (ap (λ (x : Num). x.decimal) c.self.view_is)
-    ∙ ap stored_decimal (c.is_same_word.ensures.same c.if-is_same_word.true) ∙ ap (λ (x : Num). x.decimal) c.other.view_is in
-    sym (ap is_eq (same_equal a b (ap (λ (n : Decimal). n.mantissa) same) (ap (λ (n : Decimal). n.exponent) same)))
+pub returns-in-Some : goal.returns-in-Some
+returns-in-Some c =
+    words_tell c.self.inside.stored c.other.inside.stored c.in-Some.is_same c.self.inside.num c.other.inside.num c.self.invariant c.other.invariant
+    c.in-Some.ensures.same c.in-Some.ensures.different
+    ∙ ap₂ (λ (x y : Num). number_eq x.decimal y.decimal) c.self.view_is c.other.view_is
