@@ -8,6 +8,6 @@ pub passed_on : {X E : Type 0} (P : E → Type 0) (r : Result X E) {e : E} → I
 passed_on P (Ok x) is p = tt
 passed_on P (Err y) is p = subst P (sym is) p
 
--- If a part fails with an error, the container fails with the same error.
+-- If `P` or `Q × R` holds, and `R` implies `S`, then `P` or `Q × S` holds.
 pub refused_too : {P Q R S : Type 0} → (R → S) → P ⊎ (Q × R) → P ⊎ (Q × S)
 refused_too f refused = ⊎_map (λ memory. memory) (λ number. (number.0, f number.1)) refused

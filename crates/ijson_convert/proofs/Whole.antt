@@ -29,7 +29,8 @@ pub has_same : (a n : Decimal) (z : ℤ) → HasValue a z → HasValue n z → n
 has_same a n z h k =
     number_cmp_total.congr a (integer z) n (tests_equal _ h) ∙ tied_back number_cmp_total n (integer z) (tests_equal _ k)
 
--- If a tree is the number `z` without a decimal point, it is `integer_tree z`.
+-- If `z` fits an `i64`, and a tree is the number `z` without a decimal point, the tree is
+-- `integer_tree z`.
 signed_made : (z : ℤ) (t : Tree) → IsWellFormed t → FitsSigned w64 z → IsIntegerTree t z → t ≡ integer_tree z
 signed_made z (number n) w i h = signed_is (record { decimal = n; is_num = w }) z i h
 signed_made z _ w i h = absurd h
@@ -51,7 +52,8 @@ integer_same : (z : ℤ) (t : Tree) → HasInteger t z → Same (integer_tree z)
 integer_same z (number n) h = has_same (integer_number z) n z (integer_value z) h
 integer_same z _ h = absurd h
 
--- If a tree has the value `z`, it means the same as the integer restored from the bits of `z`.
+-- If `z` fits a signed type, and a tree has the value `z`, the tree means the same as the integer
+-- restored from the bits of `z`.
 pub signed_same : (width : Width) (z y : ℤ) (t : Tree) → HasInteger t y → FitsSigned width z → y ≡ z
     → Same (integer_tree (cast_signed width (cast_unsigned width z))) t
 signed_same width z y t h i e = subst (λ x. Same (integer_tree x) t) (e ∙ sym (to_z-of_z width z i)) (integer_same y t h)
@@ -83,7 +85,8 @@ pub unsigned_past : (limit m : ℕ) (v : WellFormed) → HasInteger v.tree (pos 
     → (OutOfRange ≡ Memory) ⊎ UnsignedRefused limit v.tree OutOfRange
 unsigned_past limit m v h past = inr (unsigned_out limit m v.tree v.well_formed h past)
 
--- If a tree is not a signed integer of this width, it is rejected with the error of `IsNoInteger`.
+-- If a tree is not a signed integer of the width `width`, it is rejected with the error of
+-- `IsNoInteger`.
 pub signed_none : (width : Width) (t : Tree) (e : ConvertError) → ((z : ℤ) → FitsSigned width z → HasInteger t z → ⊥)
     → IsNoInteger t e → (e ≡ Memory) ⊎ SignedRefused width t e
 signed_none width (number n) e none is = inr (is, none)

@@ -18,7 +18,7 @@ abbrev pub TextRefused : Tree → ConvertError → Type 0
 TextRefused (string s) e = ⊥
 TextRefused _ e = e ≡ WrongKind
 
--- Holds if reading a signed integer of this width from the tree fails with error `e`.
+-- Holds if reading a signed integer of width `width` from the tree fails with error `e`.
 abbrev pub SignedRefused : Width → Tree → ConvertError → Type 0
 SignedRefused width (number n) e =
     (e ≡ OutOfRange) × ((z : ℤ) → FitsSigned width z → HasValue n z → ⊥)

@@ -32,7 +32,7 @@ impl FromIValue for bool {
     ghost complete = { bool_complete };
 }
 
-/// Copies a string.
+/// Reads a string, which is copied.
 impl FromIValue for String {
     ghost tree = { λ s. string (string_bytes s) };
 
@@ -52,7 +52,7 @@ impl FromIValue for String {
     ghost complete = { λ s. text_complete (string_bytes s) };
 }
 
-/// Shares a string with `value`.
+/// Reads a string, which is shared with `value`.
 impl FromIValue for IString {
     ghost tree = { λ s. string s };
 

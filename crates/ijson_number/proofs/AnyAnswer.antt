@@ -1,7 +1,7 @@
--- A fact that holds for every result also holds under a condition on the result.
+-- Lemmas about propositions that hold if a result is `Err` or an option is `None`.
 use Rattle.ijson_number.proofs.Common.{Option, Some, None, IfNone, Result, Ok, Err, OnErr}
 
--- If `P` holds for every result, then `P` holds if `r` is `Err`.
+-- If `P` holds, then `OnErr r P` holds.
 pub where_refused : {T E P : Type 0} (r : Result T E) → P → OnErr r P
 where_refused (Ok _) p = tt
 where_refused (Err _) p = p

@@ -24,7 +24,7 @@ fits_u64 m = int_le (pos 0) m && int_lt m (pos (2 ^ 64))
 abbrev pub digits_form : Decimal → FormOf
 digits_form n = digits (int_lt n.mantissa (pos 0)) (stripped_digits n) n.exponent n.point
 
--- The representation of the integer `m`, which is the value of `n`, without a decimal point.
+-- The representation of `n`, a number without a decimal point whose value is the integer `m`.
 abbrev pub integer_form : Decimal → ℤ → FormOf
 integer_form n m =
     elim (fits_packed m) [
@@ -38,8 +38,9 @@ integer_form n m =
       ]
     ]
 
--- The packed representation with the smallest exponent among `k .. k + tries` whose mantissa fits,
--- or the list of digits if no mantissa fits.
+-- The packed representation of `n` with the smallest exponent for which the mantissa fits, or the
+-- list of digits if no mantissa fits. Tries the `tries` exponents from `k` on, up to the exponent
+-- of `n`.
 abbrev pub smallest_packed : (tries k : ℕ) → Decimal → FormOf
 smallest_packed zero k n = digits_form n
 smallest_packed (suc tries) k n =

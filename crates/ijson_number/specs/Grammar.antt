@@ -31,13 +31,14 @@ abbrev pub IsWhole : List ℕ → Type 0
 IsWhole [] = ⊥
 IsWhole (b ∷ bs) = (b ≡ 48 × bs ≡ []) ⊎ ((49 ≤ b) × (b ≤ 57) × AllDigits bs)
 
--- Holds if the bytes are an optional fraction with these digits. A written fraction is `'.'` and at
--- least one digit. `written` is false if the bytes are empty.
+-- Holds if the bytes are an optional fraction with the digits `digits`. A written fraction is `'.'`
+-- and at least one digit. `written` is false if the bytes are empty.
 abbrev pub IsFraction : List ℕ → (digits : List ℕ) → (written : Bool) → Type 0
 IsFraction [] digits written = digits ≡ [] × written ≡ false
 IsFraction (b ∷ bs) digits written = b ≡ 46 × IsDigits bs × digits ≡ bs × written ≡ true
 
--- Holds if the bytes are an optional `'+'` or `'-'` and at least one digit, and denote the integer.
+-- Holds if the bytes are an optional `'+'` or `'-'` and at least one digit, and denote the integer
+-- `z`.
 abbrev pub IsSigned : List ℕ → ℤ → Type 0
 IsSigned [] z = ⊥
 IsSigned (b ∷ bs) z =

@@ -1,5 +1,5 @@
--- Stripping the trailing zeros of a mantissa. `with_ten` is one step: if ten divides `n`, it counts
--- one more zero in `rest`.
+-- Stripping the trailing zeros of a mantissa. `with_ten` is one step: if ten divides `n`, the step
+-- counts one zero in addition to the zeros that `rest` counts; otherwise nothing is stripped.
 use Rattle.std.specs.Prelude.{ℕ, zero, suc, ◌/◌, ◌%◌, nat_eq, nat_abs, int_lt, ℤ, pos, ◌+ℤ◌, Bool, true, false}
 use Rattle.ijson_number.specs.Decimal.{Decimal}
 use Rattle.ijson_number.specs.Strips.{signed}

@@ -75,10 +75,10 @@ fn encode_integer(negative: bool, magnitude: u64) -> Option<Stored>
 }
 
 impl Significand {
-    /// Returns a common number as a packed word, or `None` if it is not common.
+    /// Returns the packed word of the number if the number is common, and `None` otherwise.
     ///
-    /// Most numbers with a decimal point are common: they have at most seven fraction digits and a
-    /// magnitude below `2 ^ 55`.
+    /// A number is common if its exponent is from -7 to 0 and its magnitude is below `2 ^ 55`. Most
+    /// numbers with a decimal point are common.
     #[inline(always)]
     fn common_word(self) -> Option<Stored>
         requires point { self.point ≡ true }

@@ -72,10 +72,11 @@ fn places_left(number: u64, count: usize) -> usize
     }
 }
 
-/// Appends the fraction digits at the start of `bytes` to `number`, which has `count` digits.
+/// Appends up to `places_left` fraction digits at the start of `bytes` to `number`, which has
+/// `count` digits.
 ///
-/// Returns the result, the number of digits read, and the bytes after them. Returns `None` if a
-/// point is not followed by a digit.
+/// Returns the result, the number of digits read, and the bytes after them. Returns `None` if
+/// `bytes` begins with a point, and no digit follows it or `places_left` is 0.
 #[inline(always)]
 fn take_fraction(number: u64, count: usize, bytes: &[u8]) -> Option<(u64, usize, &[u8])>
     requires few { count ≤ 19 }
@@ -104,7 +105,10 @@ pub struct Front {
     pub length: usize,
 }
 
-/// Reads the sign, the whole part and the fraction, and returns the bytes after them.
+/// Reads the optional sign, the whole part and the optional fraction, and returns the bytes after
+/// them.
+///
+/// Returns `None` if the whole part is invalid, or if `take_fraction` returns `None`.
 #[inline(always)]
 fn read_mantissa(text: &[u8]) -> Option<(Front, &[u8])>
     ensures found { IfSome result (λ r. IsMantissa text.now r.0 r.1.now) }

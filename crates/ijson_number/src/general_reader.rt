@@ -139,8 +139,8 @@ pub struct Spelling<'a> {
 
 /// Splits the leading number into its parts, and returns the bytes after it.
 ///
-/// If `text` does not begin with a number, returns `Err` with the bytes from the first byte on that
-/// cannot continue a number.
+/// If the longest prefix that can begin a number is not a number, returns `Err` with the bytes
+/// after this prefix.
 #[inline(always)]
 pub fn read_spelling(text: &[u8]) -> Result<(Spelling<'_>, &[u8]), &[u8]>
     ensures ok { IfOk result (λ r. IsSpellingRead text.now r.0 r.1.now) }

@@ -48,7 +48,7 @@ impl From<AllocError> for ParseNumberError {
 /// The error of reading a number at the start of an input.
 #[derive(Clone, Copy, PartialEq, Eq, Debug, Drop, Error)]
 pub enum ReadNumberError {
-    /// The input does not begin with a complete number.
+    /// The longest prefix of the input that can begin a number is not a number.
     ///
     /// `at` is the offset of the first byte that cannot continue a number, or the length of the
     /// input if it ends too early.

@@ -1,9 +1,12 @@
 //! Appends the text of a number, and its canonical digits.
 //!
-//! `push_fast` appends numbers as vectors of 16 digits, without a formatter: integers that fit a
-//! word, and numbers of at most 19 digits with a decimal point. `write_display` writes all other
-//! numbers, and numbers whose text has zeros between the digits and the point or an exponent after
-//! a single digit.
+//! `push_fast` appends most numbers as vectors of 16 digits, without a formatter. `write_display`
+//! writes the others:
+//!
+//! - integers without a decimal point that do not fit a word,
+//! - numbers stored as a `LongNumber`,
+//! - numbers whose text has zeros between the digits and the point, or an exponent after a single
+//!   digit.
 ghost use Rattle.std.specs.Prelude.{◌≡◌, ◌+◌, ◌-◌, ◌/◌, ◌%◌, ◌^◌, ◌<◌, ◌≤◌, ◌∷◌, ◌++◌, ℤ, drop, length, nat_abs, neg_ℤ, pos, true, negsuc, int_le};
 ghost use Rattle.std.specs.Prelude.{int_lt, ◌||◌, ◌+ℤ◌, ◌≤ℤ◌, ◌⊎◌, IsSome, OnErr, OnOk, IfOk};
 ghost use Rattle.std.specs.String.{string_bytes};

@@ -20,11 +20,11 @@ use Rattle.ijson_string.proofs.Chains.{head_of-within, head_of-here}
 use Rattle.ijson_string.proofs.KeysAt.{buckets_of_keys, buckets-keys, as_many_keys}
 
 module _ (hash : ℕ) (text : List ℕ) where
-  -- A key with this hash and this string satisfies `is_key`.
+  -- A key with the hash `hash` and the string `text` satisfies `is_key`.
   pub is_same : (k : Key) → k.hash ≡ hash → k.text ≡ text → is_key hash text k ≡ true
   is_same k h t = ap₂ ◌&&◌ (eq-eqb hash k.hash (sym h)) ((bytes_decides text k.text).1 (sym t))
 
-  -- If the key at index `at` has this hash and this string, the list contains the key.
+  -- If the key at index `at` has the hash `hash` and the string `text`, the list contains the key.
   pub any_at : (keys : List Key) (at : ℕ) → IsKeyAt hash text keys at → list_any (is_key hash text) keys ≡ true
   any_at keys at there = list_any_at (is_key hash text) keys at no_key there.0
       (ap (is_key hash text) there.1 ∙ is_same (record { hash = hash; text = text }) refl refl)
@@ -76,8 +76,8 @@ module _ (count hash : ℕ) (text : List ℕ) where
     pub here : 0 < at → get_or (buckets_of_keys count keys) (at - 1) 0 ≡ bucket_of count hash
     pub ahead : list_any (is_key hash text) keys ≡ list_any (is_key hash text) (take at keys)
 
-  -- If the key can only be among the first `n` keys, a lookup may start at the last of them in its
-  -- bucket.
+  -- If the key can only be among the first `n` keys, a lookup may start at the last of these `n`
+  -- keys that is in the bucket of `hash`.
   IsAhead-heads : (keys : List Key) (n at : ℕ) → n ≤ length keys
       → list_any (is_key hash text) keys ≡ list_any (is_key hash text) (take n keys)
       → at ≡ head_of (bucket_of count hash) (take n (buckets_of_keys count keys)) → IsAhead keys at

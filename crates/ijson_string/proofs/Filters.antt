@@ -1,5 +1,5 @@
--- Adding a hash to the filter of its bucket: the hash then passes, and each hash that passed before
--- still passes.
+-- A hash passes the filter of its bucket after it is added to the filter, and each hash that passed
+-- before still passes.
 use Rattle.std.proofs.Common.{◌≡◌, ◌∙◌, ap, sym, subst, refl, ℕ, ◌<◌, max, true, false, ◌&&◌, ◌||◌, List, [], ◌∷◌, ◌++◌, length}
 use Rattle.std.proofs.Common.{get_or, arith}
 use Rattle.std.specs.Prelude.{◌==◌, nat_eq}
@@ -45,7 +45,7 @@ module _ (filters : List ℕ) (hash : ℕ) (inside : bucket_of (length filters) 
       → bit_or x (filter_of q) ≡ x → passes (with_filter filters hash) q ≡ true
   passes_by q x e f = eq-eqb _ _ (ap (λ y. bit_or y (filter_of q)) e ∙ f ∙ sym e)
 
-  -- A hash passes after its bits are set.
+  -- After the bits of `hash` are set, `hash` passes the filter of its bucket.
   passes-own : passes (with_filter filters hash) hash ≡ true
   passes-own =
       let there : ℕ = get_or filters (bucket_of (length filters) hash) 0 in
@@ -53,7 +53,7 @@ module _ (filters : List ℕ) (hash : ℕ) (inside : bucket_of (length filters) 
       ∙ get_or-set_same filters (bucket_of (length filters) hash) (bit_or there (filter_of hash)) 0 inside)
       (or_there there (filter_of hash))
 
-  -- If a hash passes, it still passes after the bits of another hash are set.
+  -- If `q` passes the filter of its bucket, it still passes after the bits of `hash` are set.
   passes-kept : (q : ℕ) → passes filters q ≡ true → passes (with_filter filters hash) q ≡ true
   passes-kept q before =
       let bucket : ℕ = bucket_of (length filters) hash in
@@ -76,14 +76,14 @@ module _ (filters : List ℕ) (hash : ℕ) (inside : bucket_of (length filters) 
             was
       ] refl
 
-  -- If each hash passes, each hash and the added hash pass after the bits of the added hash are
-  -- set.
+  -- If each of `hashes` passes the filter of its bucket, each of `hashes` and `hash` passes after
+  -- the bits of `hash` are set.
   pub AllPass-push : (hashes : List ℕ) → AllPass filters hashes → AllPass (with_filter filters hash) (hashes ++ hash ∷ [])
   AllPass-push [] all = (passes-own, tt)
   AllPass-push (h ∷ hashes) all = (passes-kept h all.0, AllPass-push hashes all.1)
 
--- If each of `hashes` passes the filters and `hash` does not, the list does not contain the key with
--- this hash and text.
+-- If each of `hashes` passes the filter of its bucket and `hash` does not, the keys of `hashes` and
+-- `texts` lack the key with the hash `hash` and the string `text`.
 pub is_nowhere : (filters : List ℕ) (hash : ℕ) (text : List ℕ) (hashes : List ℕ) (texts : List (List ℕ)) → AllPass filters hashes
     → passes filters hash ≡ false
     → list_any (is_key hash text) (keys_of hashes texts) ≡ false

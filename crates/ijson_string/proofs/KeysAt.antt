@@ -20,18 +20,19 @@ texts-keys [] (t ∷ texts) e = absurd (omega arith)
 texts-keys (h ∷ hashes) [] e = absurd (omega arith)
 texts-keys (h ∷ hashes) (t ∷ texts) e = ap (λ texts. t ∷ texts) (texts-keys hashes texts (omega arith))
 
--- There are as many keys as hashes.
+-- If there are as many strings as hashes, there are as many keys as hashes.
 pub length-keys : (hashes : List ℕ) (texts : List (List ℕ)) → length texts ≡ length hashes → length (keys_of hashes texts) ≡ length hashes
 length-keys hashes texts e = sym (length-map (keys_of hashes texts) (λ k. k.text)) ∙ ap length (texts-keys hashes texts e) ∙ e
 
--- The buckets of the keys are the buckets of their hashes.
+-- If there are as many strings as hashes, the buckets of the keys are the buckets of the hashes.
 pub buckets-keys : (count : ℕ) (hashes : List ℕ) (texts : List (List ℕ)) → length texts ≡ length hashes
     → buckets_of_keys count (keys_of hashes texts) ≡ buckets_of count hashes
 buckets-keys count [] texts e = refl
 buckets-keys count (h ∷ hashes) [] e = absurd (omega arith)
 buckets-keys count (h ∷ hashes) (t ∷ texts) e = ap (λ buckets. bucket_of count h ∷ buckets) (buckets-keys count hashes texts (omega arith))
 
--- The key at index `i` has the hash and the string at index `i`.
+-- If there are as many strings as hashes, the key at index `i` has the hash and the string at index
+-- `i`.
 pub get_or-keys : (hashes : List ℕ) (texts : List (List ℕ)) (i : ℕ) → length texts ≡ length hashes
     → get_or (keys_of hashes texts) i no_key ≡ record { hash = get_or hashes i 0; text = get_or texts i [] }
 get_or-keys [] [] i e = refl
@@ -40,7 +41,7 @@ get_or-keys (h ∷ hashes) [] i e = absurd (omega arith)
 get_or-keys (h ∷ hashes) (t ∷ texts) zero e = refl
 get_or-keys (h ∷ hashes) (t ∷ texts) (suc i) e = get_or-keys hashes texts i (omega arith)
 
--- Appending a hash and a string appends their key.
+-- If there are as many strings as hashes, appending a hash and a string appends their key.
 pub keys-push : (hashes : List ℕ) (texts : List (List ℕ)) (h : ℕ) (t : List ℕ) → length texts ≡ length hashes
     → keys_of (hashes ++ h ∷ []) (texts ++ t ∷ []) ≡ keys_of hashes texts ++ record { hash = h; text = t } ∷ []
 keys-push [] [] h t e = refl

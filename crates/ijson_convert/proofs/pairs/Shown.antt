@@ -67,8 +67,8 @@ pub entries_given : {X : Type 0} {it all : List (String Global × X)} {count : �
     × IsDistinct (map (λ e. string_bytes e.0) es)
 entries_given {all = all} is counted distinct = (all, entries_shown is, counted, distinct)
 
--- If a property holds for every list of entries that the iterator can yield, it holds for this
--- list.
+-- If `Shown` implies `Tree`, `Cache` and `Refused` for every `es`, an `es` that satisfies `Shown`
+-- satisfies all three.
 pub of_shown : {E : Type 0} {Shown Tree Cache Refused : E → Type 0}
     → record {
       tree : (es : E) → Shown es → Tree es;

@@ -71,8 +71,8 @@ module _ {X : Type 0} (tree : X → Tree) where
               (ap suc rest.0, ((s.0.0, grows (string_bytes e.0) s.0.0 s.0.1, s.0.2), rest.1))
         ] refl
 
-  -- If a map means the same as `done` and the key is new, the map with the entry means the same as
-  -- `done` with a member that means the same.
+  -- If the map `es` means the same as `done`, which lacks `key`, and `x` means the same as `v`,
+  -- then `es` with `key` and `x` inserted means the same as `done` with `k` and `v` appended.
   pub member_same : (es grown : List (String Global × X)) (done : List (List ℕ × WellFormed)) (key : String Global) (k : List ℕ) (x : X)
       (v : WellFormed)
       → grown ≡ insert_entry string_cmp es key x → string_bytes key ≡ k → Lacks k (keys_of done)

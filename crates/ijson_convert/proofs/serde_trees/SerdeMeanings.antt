@@ -60,7 +60,8 @@ array_unmeant before u left never (serde.array ds) (array ts, w, h, s) = items_u
 array_unmeant before u left never d (array ts, w, h, s) = h
 array_unmeant before u left never d (t, w, h, s) = s
 
--- `new` includes all members of `old`, and a member with the key `k` that means the same as `t`.
+-- In this module, `new` includes all members of `old`, and a member with the key `k` that means the
+-- same as `t`.
 module _ (old new : Members) (grows : (j : List ℕ) (u : Tree) → Has j u old → Has j u new) (k : List ℕ) (d : Data) (t : Tree)
     (partner : (u : Tree) × Has k u new × Same t u) where
   record Added (ps qs : Members) : Type 0 where
@@ -70,7 +71,7 @@ module _ (old new : Members) (grows : (j : List ℕ) (u : Tree) → Has j u old 
     distinct : Lacks k (member_keys ps) → IsDistinct (member_keys ps) → IsDistinct (member_keys qs)
     well : IsWellFormed t → HaveWellFormed ps → HaveWellFormed qs
 
-  -- Inserting the member as the first member of `ps` satisfies `Added`.
+  -- Prepending the member with the key `k` and the tree `t` to `ps` satisfies `Added`.
   added_first : (ps : Members) → Added ps (member k t ps)
   added_first ps = record {
     len = refl;

@@ -28,7 +28,8 @@ unsigned_num n h = integer_num (pos n) h (λ e. unsigned_fits n h)
 signed_num : (z : ℤ) → FitsSigned w64 z → IsNum (integer_number z)
 signed_num z h = integer_num z (signed_small z h) (λ e. let t = signed_fits z h in cc)
 
--- If a `serde_json` number has the tree of `z` and `u` has the value `z`, the two mean the same.
+-- If the `serde_json` number `m` has the tree of the integer `z`, and `u` has the value `z`, then
+-- `m` and `u` mean the same.
 integer_means : (m : serde.Num) (z : ℤ) (u : Decimal) → SerdeNumber m (integer_number z) → IsNum (integer_number z) → HasValue u z
     → SerdeMeans (serde.number m) (number u)
 integer_means m z u tree is h = (number (integer_number z), is, tree, has_same (integer_number z) u z (integer_value z) h)

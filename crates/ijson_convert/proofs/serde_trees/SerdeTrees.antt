@@ -71,7 +71,8 @@ entry_interned e t k old middle new keyed is read tree =
     read ∙ ap (λ l. all_interned l middle) (tree_texts (view e.1) t tree)
     ∙ ap (all_interned (serde_texts (view e.1))) (keyed ∙ ap (λ k. interned k old) is)
 
--- If lists have trees, the list with `v` appended has the trees with the tree of `v` appended.
+-- If the list `vs` has the trees of `us` and `v` has the tree of `u`, then `vs` with `v` appended
+-- has the trees of `us` with `u` appended.
 pub items_more : (vs : List Value) (us : List WellFormed) (v : Value) (u : WellFormed)
     → SerdeItems (items_view vs) (item_trees us) → SerdeTree (view v) u.tree
     → SerdeItems (items_view (vs ++ v ∷ [])) (item_trees (us ++ u ∷ []))
@@ -80,8 +81,8 @@ items_more [] (w ∷ us) v u h s = absurd h
 items_more (x ∷ vs) [] v u h s = absurd h
 items_more (x ∷ vs) (w ∷ us) v u h s = (h.0, items_more vs us v u h.1 s)
 
--- If entries have trees, the entries with `e` appended have the trees with the member of `e`
--- appended.
+-- If the entries `es` have the members `ps` and the value of `e` has the tree of `u`, then `es`
+-- with `e` appended have the members `ps` with the key of `e` and `u` appended.
 pub members_more : (es : List Entry) (ps : List (List ℕ × WellFormed)) (e : Entry) (u : WellFormed)
     → SerdeMembers (members_view es) (pair_trees ps) → SerdeTree (view e.1) u.tree
     → SerdeMembers (members_view (es ++ e ∷ [])) (pair_trees (ps ++ (string_bytes e.0, u) ∷ []))

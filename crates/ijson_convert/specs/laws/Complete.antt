@@ -59,7 +59,8 @@ module _ {X : Type 0} (tree : X → Tree) (Refused : Tree → ConvertError → T
   list_complete xs (array ts) e i w v s r = items_complete xs ts e i w v s r
   list_complete xs _ e i w v s r = absurd s
 
-  -- If the tree of a map has a member, its tree `u` is the well-formed tree of a value in the map.
+  -- If the tree of a map has a member with the tree `u`, then `u` is the well-formed tree of a
+  -- value in the map.
   pair_of : (es : List (String Global × X)) → All in_range (values_of es) → HaveWellFormed (members_of (map (pair_tree tree) es))
       → (k : List ℕ) (u : Tree) → Has k u (members_of (map (pair_tree tree) es))
       → (x : X) × (u ≡ tree x) × in_range x × IsWellFormed (tree x)

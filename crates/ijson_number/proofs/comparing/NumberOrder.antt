@@ -24,7 +24,8 @@ same_digit ds es i x y h g p q e =
     let digit : get_or ds i 0 ≡ get_or es i 0 = cc in
     rw (add-one, drop-cons ds i 0, drop-cons es i 0, digit, tied_itself nat_cmp_total (get_or es i 0)) refl
 
--- At the end of the shorter list, the order of the remaining digits is the order of the lengths.
+-- If `i` is the length of the shorter list, comparing both lists from `i` on has the same result as
+-- comparing their lengths.
 pub row_ends : (ds es : List ℕ) (i : ℕ) → i ≡ min (length ds) (length es)
     → slice_cmp nat_cmp (drop i ds) (drop i es) ≡ nat_cmp (length ds) (length es)
 row_ends [] [] i h = rw (drop_all {X = ℕ} i [] (omega arith)) refl
@@ -136,7 +137,7 @@ tests_same s t r e h = grind (arith, nat_tests)
 pub tests_apart : (s t : Ordering) (r : Bool) → r ≡ not (ordering_index s == ordering_index t) → r ≡ true → s ≡ t → ⊥
 tests_apart s t r e h g = let same = ap ordering_index g in grind (arith, nat_tests)
 
--- Stripping the trailing zeros of a mantissa keeps its sign.
+-- Stripping the trailing zeros of a mantissa below `2 ^ 64` keeps its sign.
 pub stripped_sign : (m e : ℤ) (point : Bool) → nat_abs m < 2 ^ 64 → int_cmp (stripped_number m e point).mantissa (pos 0) ≡ int_cmp m (pos 0)
 stripped_sign (pos zero) e point word = ap (λ (n : Decimal). int_cmp n.mantissa (pos 0)) (no_digits false e point)
 stripped_sign (pos (suc n)) e point word =

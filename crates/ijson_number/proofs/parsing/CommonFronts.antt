@@ -59,7 +59,8 @@ point_tail most bytes front rest taken after e d n number count zero others t =
     point_tail_at most front t.digits rest taken after t.has_point t.fraction t.ends
     (let few = t.few in grind arith) (sym e ∙ t.text_is) d n
 
--- The bytes after the whole part of a number do not begin with a digit.
+-- If `EndsDigits point rest` holds, an optional fraction followed by `rest` does not begin with a
+-- digit.
 behind_begins : (ft f rest : List ℕ) (point : Bool) → IsFraction ft f point → EndsDigits point rest → BeginsWithNoDigit (ft ++ rest)
 behind_begins [] f rest point g s = ends_begins point rest s
 behind_begins (b ∷ bs) f rest point g s = λ d. omega (arith, g.0)

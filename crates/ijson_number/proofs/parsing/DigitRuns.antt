@@ -98,7 +98,8 @@ pub whole_all : (bs : List ℕ) → IsWhole bs → AllDigits bs
 whole_all [] h = absurd h
 whole_all (b ∷ bs) h = elim h [ inl e ↦ ((omega arith, omega arith), rw e.1 tt) | inr e ↦ ((omega arith, omega arith), e.2) ]
 
--- Holds if `text` is a number without its sign, with these parts.
+-- Holds if `text` is a number without its sign, with the parts `whole`, `fraction` and `exponent`.
+-- `point` is true if a fraction or an exponent was written.
 pub record IsUnsigned (text whole fraction : List ℕ) (exponent : ℤ) (point : Bool) : Type 0 where
   pub rest : List ℕ
   pub text_is : text ≡ whole ++ rest

@@ -83,8 +83,8 @@ module _ (text : List ℕ) (f : Front) (rest : List ℕ) (m : IsMantissa text f 
       ≡ significand_number s = rw (negative, point) refl in
       (rw (taken count within) (subst (Spells (front ++ take count rest)) same n.0), subst IsNum same n.1)
 
-  -- If the first `f.length + count` bytes of `text` spell the number of `s`, and neither a digit
-  -- nor a letter follows, then `s` is the number at the start of `text`.
+  -- If the first `f.length + count` bytes of `text` spell the number of `s`, and `EndsToken` and
+  -- `HasNoPoint` hold for the bytes after them, then `s` is the number at the start of `text`.
   front_of : (s : Significand) (count : ℕ) → count ≤ length rest → EndsToken (drop count rest) → HasNoPoint s.point (drop count rest)
       → Spells (take (f.length + count) text) (significand_number s) × IsNum (significand_number s)
       → s.magnitude ≡ f.significand.magnitude → (neg_ℤ (pos 10050) ≤ℤ s.exponent) × (s.exponent ≤ℤ pos 10050)

@@ -370,7 +370,8 @@ spelled_by m w tail f negative z p signed_is whole t = record {
   point = t.point_is;
 }
 
--- If no digit follows the optional minus sign of `text`, then `text` does not begin with a number.
+-- If no digit follows the optional minus sign of `text`, then `text` is an incomplete number
+-- followed by `unsigned`.
 pub cut_whole : (text unsigned : List ℕ) (negative : Bool) → IsSignTaken text negative unsigned → BeginsWithNoDigit unsigned → IsCut text unsigned
 cut_whole text unsigned negative taken none = elim taken [
   | inl m ↦ record {
@@ -414,8 +415,8 @@ cut_whole text unsigned negative taken none = elim taken [
     unsigned_stuck [] h s = tt
     unsigned_stuck (b ∷ rest) h s = rw (other b 45 (s (omega arith))) (stuck (b ∷ rest) h)
 
--- If an incomplete fraction or exponent follows the whole part, `text` does not begin with a
--- complete number.
+-- If an incomplete fraction or exponent follows the whole part, `text` is an incomplete number
+-- followed by `rest`.
 pub cut_tail : (text unsigned whole behind rest : List ℕ) (negative : Bool) → IsSignTaken text negative unsigned
     → IsWholeRead unsigned whole behind → IsTailCut behind rest → IsCut text rest
 cut_tail text unsigned whole behind rest negative taken w t =
@@ -550,8 +551,8 @@ point_stops front (b ∷ rest) p n s same h = λ none dot.
 no_letter : (b : ℕ) → is_ascii_alphanumeric b ≡ false → is_letter b ≡ false
 no_letter b h = grind (arith, nat_tests)
 
--- If `bytes` are a number and `EndsToken rest` holds, the first byte of `rest` cannot continue the
--- number.
+-- If `bytes` are a number, and `EndsToken` and `HasNoPoint` hold for `rest`, the first byte of
+-- `rest` cannot continue the number.
 token_stuck : (bytes rest : List ℕ) (p : Bool) → (e : EndsAt bytes p) → EndsToken rest → HasNoPoint p rest → IsStuck e.at rest
 token_stuck bytes [] p e ends none = tt
 token_stuck bytes (b ∷ rest) true e ends none =
@@ -568,8 +569,8 @@ pub no_point_of : (p : Bool) (rest : List ℕ) → EndsDigits p rest → HasNoPo
 no_point_of p [] h = tt
 no_point_of p (b ∷ rest) h = h.1
 
--- If neither a digit nor a letter follows a number, the number is the longest prefix of `text` that
--- can begin a number.
+-- If the byte after a number is neither a digit nor a letter, nor `.` after a number without a
+-- point, the number is the longest prefix of `text` that can begin a number.
 pub common_front : (text : List ℕ) (count : ℕ) (n : Decimal) → count ≤ length text → Spells (take count text) n → EndsToken (drop count text)
     → EndsDigits n.point (drop count text) → IsNumberFront text count
 common_front text count n within s ends digits =

@@ -9,7 +9,7 @@ use Rattle.ijson_number.proofs.writing.LastDigits.{front_is, joined, last_count}
 use Rattle.ijson_number.proofs.parsing.ReadLanes.{digit_lanes}
 use Rattle.ijson_number.proofs.writing.DigitTexts.{read_back}
 
--- Converting the decimal text of `n` to digits yields the digits of `n`.
+-- Converting the decimal text of a nonzero `n` to digits yields the digits of `n`.
 pub made : (n start : ℕ) (text buffer : List ℕ) → 0 < n → n < 2 ^ 64 → drop start text ≡ decimal n ++ [] → buffer ≡ digits_from_text text
     → drop start buffer ≡ digits_of 10 n
 made n start text buffer some word written is =
@@ -20,7 +20,7 @@ digits_back : (ds : List ℕ) → AllBelowBase 10 ds → map (λ a. (a + (2 ^ 8 
 digits_back [] h = refl
 digits_back (d ∷ ds) h = ap₂ ◌∷◌ (omega (arith, h.0)) (digits_back ds h.1)
 
--- Among the 16 digits of `n`, the digits after the leading zeros are the digits of `n`.
+-- Among the 16 digits of a nonzero `n`, the digits after the leading zeros are the digits of `n`.
 pub row_digits : (n zeros : ℕ) (lanes : List ℕ) → 0 < n → n < 10 ^ 16 → length lanes ≡ 16 → lanes ≡ last_digits 16 n
     → IsZerosInFront lanes zeros → drop zeros (digit_lanes lanes) ≡ digits_of 10 n
 row_digits n zeros lanes some small long is counted =

@@ -53,7 +53,8 @@ module _ (m e : ℤ) (n : Decimal) (small : nat_abs m < 10 ^ 20) (s : Strips m e
         (λ _. rw (abs_signed (int_lt m (pos 0)) out.0) tens.1) s.plain.stripped (sym scaled ∙ is) in
         (r.0, (let j = r.1 (λ z. some (scaled ∙ rw z (let w : 0 * 10 ^ out.1 ≡ 0 = omega arith in ap pos w))) in omega (arith, ints, x)))
 
-  -- If `n` is `m * 10 ^ e` without trailing zeros, stripping the trailing zeros of `m` yields `n`.
+  -- If `n` is `m * 10 ^ e` without trailing zeros, and `m` has at most 20 digits, stripping the
+  -- trailing zeros of `m` yields `n`.
   pub stripped_is : stripped_number m e n.point ≡ n
   stripped_is =
       elim (zero_or_not m) [

@@ -21,8 +21,8 @@ use Rattle.ijson_number.proofs.storing.WholeValues.{abs_times, tens_few}
 pub no_more : (n k : ℕ) → n ≤ n * 10 ^ k
 no_more n k = let m : n * 1 ≤ n * 10 ^ k = mul-le-mul_left n (ten_pos k) in omega arith
 
--- If `magnitude` is nonzero and equals `s * 10 ^ t`, and ten does not divide `s`, stripping zeros
--- yields the mantissa `s` and the exponent `e + t`.
+-- If `magnitude` is nonzero, below `2 ^ 64` and equal to `s * 10 ^ t`, and ten does not divide `s`,
+-- stripping zeros yields the mantissa `s` and the exponent `e + t`.
 pub canonical_of : (negative : Bool) (magnitude s t : ℕ) (e : ℤ) (point : Bool) → magnitude ≢ 0 → magnitude < 2 ^ 64 → magnitude ≡ s * 10 ^ t
     → s % 10 ≢ 0 → let n : Decimal = record { mantissa = signed negative s; exponent = e +ℤ pos t; point = point } in
     stripped_number (signed negative magnitude) e point ≡ n
@@ -101,7 +101,8 @@ pub fraction_form : (n : Decimal) → n.point ≡ true → n.exponent <ℤ pos 0
     ])
 fraction_form n point below = taken n.point _ _ point ∙ left (int_le (pos 0) n.exponent) _ _ (not_le (pos 0) n.exponent below)
 
--- A number with eight or more fraction digits is stored as a list of digits.
+-- A number whose fraction has eight or more digits and does not end with 0 is stored as a list of
+-- digits.
 pub deep_form : (s : Significand) → IsSmall s → s.exponent <ℤ negsuc 6 → s.magnitude % 10 ≢ 0
     → form_of (significand_number s) ≡ digits_form (canonical_number s)
 deep_form s small low last =
@@ -113,8 +114,8 @@ deep_form s small low last =
     ∙ left (int_le (negsuc 6) s.exponent && fits_packed (signed s.negative s.magnitude)) _ _
     (ap (λ b. b && fits_packed (signed s.negative s.magnitude)) (not_le (negsuc 6) s.exponent low))
 
--- A number with a decimal point, at most seven fraction digits and a magnitude below `2 ^ 55` is
--- packed with its own mantissa and exponent.
+-- A number with a decimal point, an exponent from -7 to 0 and a magnitude below `2 ^ 55` is packed
+-- with its own mantissa and exponent, unless its fraction ends with 0.
 common_form : (negative : Bool) (m : ℕ) (e : ℤ) → m < 2 ^ 55 → negsuc 6 ≤ℤ e → e ≤ℤ pos 0 → (e <ℤ pos 0 → m % 10 ≢ 0)
     → form_of (stripped_number (signed negative m) e true) ≡ packed (signed negative m) e true
 common_form negative m (pos (suc k)) small low high last = absurd (omega (arith, ints))
@@ -200,7 +201,8 @@ canonical_integer_form s m point is =
     left s.point _ _ point
     ∙ ap (integer_form (canonical_number s)) (sym (ap (signed s.negative) is ∙ signed_mul s.negative s.magnitude (10 ^ nat_abs s.exponent)))
 
--- Stripping trailing zeros while the exponent is below 0 keeps `IsSmall`.
+-- Stripping trailing zeros from a significand with a decimal point, while the exponent is below 0,
+-- keeps `IsSmall`.
 pub small_less : (s t : Significand) → IsSmall s → HasFewerTens s t → (t.exponent ≤ℤ pos 0) ⊎ (t.exponent ≡ s.exponent)
     → t.negative ≡ s.negative → t.point ≡ s.point → t.point ≡ true → IsSmall t
 small_less s t small h most negative point pointed =

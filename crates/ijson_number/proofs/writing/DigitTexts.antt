@@ -1,4 +1,5 @@
--- Canonical digits are the digits of their value, and are unchanged after writing and reading.
+-- Converting canonical digits to a number and back returns the same digits, and so does writing and
+-- reading digits.
 use Rattle.ijson_number.proofs.Common.{◌≡◌, ◌≢◌, ℕ, zero, suc, ◌+◌, ◌*◌, ◌/◌, ◌%◌, ◌<◌, Bool, List, [], ◌∷◌, ◌++◌, length, get_or, refl, ap, sym, ◌∙◌}
 use Rattle.ijson_number.proofs.Common.{arith, append_assoc, nat_abs, nat_eq, true, false, cond, ℤ, append-nil, AllByRecursion, recursion_from_All}
 use Rattle.ijson_number.proofs.Common.{digits_of_step, number_from_digits, number_from_digits_after, digits_of, digits_with_fuel, signed}
@@ -30,7 +31,7 @@ digits_back (d ∷ ds) h f =
 pub stripped_back : (ds : List ℕ) → IsStripped ds → digits_of 10 (number_from_digits 10 ds) ≡ ds
 stripped_back ds s = digits_back ds (recursion_from_All (λ d. d < 10) ds s.below_ten) s.first
 
--- A step of `digits_within` equals a step of the standard library's function.
+-- A step of `digits_within` equals a step of the standard library's `digits_with_fuel`.
 same_turn : (b : Bool) (xs ys : List ℕ) → xs ≡ ys → (let r : List ℕ = elim b [ true ↦ [] | false ↦ xs ] in r) ≡ cond b [] ys
 same_turn true xs ys e = refl
 same_turn false xs ys e = e

@@ -12,8 +12,9 @@ pub some_places : (whole k : ℕ) → 0 < whole → 0 < whole * 10 ^ k
 some_places zero k h = absurd (omega arith)
 some_places (suc w) k h = let t = ten_pos k in grind (arith, t)
 
--- The decimal text of `whole * 10 ^ scale + fraction` is the text of `whole` followed by the last
--- `scale` digits of `fraction`.
+-- Suppose that `whole` is not 0 and `fraction` is below `10 ^ scale`. Then the decimal text of
+-- `whole * 10 ^ scale + fraction` is the text of `whole` followed by the last `scale` digits of
+-- `fraction`.
 pub joined : (scale whole fraction : ℕ) → 0 < whole → fraction < 10 ^ scale → whole * 10 ^ scale + fraction < 10 ^ 64
     → decimal (whole * 10 ^ scale + fraction) ≡ decimal whole ++ last_digits scale fraction
 unfolding last_digits
@@ -37,8 +38,8 @@ unfolding last_digits
 last_zeros zero = refl
 last_zeros (suc k) = let next : k + 1 ≡ suc k = omega arith in rw (last_zeros k, replicate_more {X = ℕ} k 48, next) refl
 
--- If `n` is below `10 ^ scale`, its last `scale` digits are leading zeros followed by its decimal
--- text.
+-- If `scale` is not 0 and `n` is below `10 ^ scale`, the last `scale` digits of `n` are leading
+-- zeros followed by the decimal text of `n`.
 pub padded : (scale n : ℕ) → 0 < scale + n → n < 10 ^ scale → n < 10 ^ 64
     → zeros_text (scale - length (decimal n)) ++ decimal n ≡ last_digits scale n
 unfolding last_digits
@@ -99,8 +100,8 @@ last_split count (suc p) n =
 row_powers : (row scale : ℕ) → scale ≤ row → 10 ^ (row - scale) * 10 ^ scale ≡ 10 ^ row
 row_powers row scale few = let both : row - scale + scale ≡ row = omega arith in rw both at (sym (pow-add 10 (row - scale) scale))
 
--- The last `row` digits of `n` are the last `row - scale` digits of `n / 10 ^ scale` followed by
--- the last `scale` digits of `n`.
+-- If `scale` is at most `row`, the last `row` digits of `n` are the last `row - scale` digits of
+-- `n / 10 ^ scale` followed by the last `scale` digits of `n`.
 row_split : (row scale n : ℕ) → scale ≤ row → last_digits row n ≡ last_digits (row - scale) (n / 10 ^ scale) ++ last_digits scale n
 row_split row scale n few = let both : row - scale + scale ≡ row = omega arith in rw both at (last_split (row - scale) scale n)
 

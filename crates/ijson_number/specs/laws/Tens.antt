@@ -32,8 +32,8 @@ one_less a b j k e =
     let f : a * (10 * 10 ^ j) ≡ b * (10 * 10 ^ k) = rw (pow-succ' 10 j, pow-succ' 10 k) at e in
     omega arith
 
--- If `a * 10 ^ j` equals `b * 10 ^ k` and ten divides neither nonzero `a` nor nonzero `b`, then `a`
--- equals `b`, and `j` equals `k` unless `a` is 0.
+-- Suppose that `a * 10 ^ j` equals `b * 10 ^ k`, and that ten divides `a` or `b` only if it is 0.
+-- Then `a` equals `b`, and `j` equals `k` unless `a` is 0.
 nat_tens : (a b j k : ℕ) → (a ≢ 0 → a % 10 ≢ 0) → (b ≢ 0 → b % 10 ≢ 0) → a * 10 ^ j ≡ b * 10 ^ k
     → (a ≡ b) × (a ≢ 0 → j ≡ k)
 nat_tens a b zero zero p q e = (omega arith, λ _. refl)
@@ -107,7 +107,7 @@ strips_apart m e n n' j k g h p q x y =
       ],
     )
 
--- Two decimals that strip the same `m` and `e` have the same mantissa and the same exponent.
+-- Two canonical numbers with the value `m * 10 ^ e` have the same mantissa and the same exponent.
 pub strips_one : (m e : ℤ) (n n' : Decimal) → Strips m e n → Strips m e n'
     → (n.mantissa ≡ n'.mantissa) × (n.exponent ≡ n'.exponent)
 strips_one m e n n' s t =

@@ -17,13 +17,13 @@ pub record IsWholeRead (text whole rest : List ℕ) : Type 0 where
   pub ends : (whole ≡ 48 ∷ []) ⊎ BeginsWithNoDigit rest
 
 -- Holds if `rest` does not continue the fraction: it does not begin with a digit if a fraction was
--- read, nor with `'.'` otherwise.
+-- read, and does not begin with `'.'` if the fraction is empty.
 abbrev pub EndsFraction : (has_point : Bool) → List ℕ → Type 0
 EndsFraction false rest = HasNoPoint false rest
 EndsFraction true rest = BeginsWithNoDigit rest
 
--- Holds if `text` is an optional fraction with these digits followed by `rest`, and the fraction is
--- as long as possible.
+-- Holds if `text` is an optional fraction with the digits `digits`, followed by `rest`, and the
+-- fraction is as long as possible.
 pub record IsFractionRead (text digits rest : List ℕ) : Type 0 where
   pub front : List ℕ
   pub has_point : Bool
@@ -37,13 +37,13 @@ BeginsWithNoLetter [] = Unit {0}
 BeginsWithNoLetter (b ∷ bs) = is_letter b ≡ false
 
 -- Holds if `rest` does not continue the exponent: it does not begin with a digit if an exponent was
--- read, nor with `'e'` or `'E'` otherwise.
+-- read, and does not begin with `'e'` or `'E'` if the exponent is empty.
 abbrev pub EndsExponent : (has_exponent : Bool) → List ℕ → Type 0
 EndsExponent false rest = BeginsWithNoLetter rest
 EndsExponent true rest = BeginsWithNoDigit rest
 
--- Holds if `text` is an optional exponent with this sign and these digits followed by `rest`, and
--- the exponent is as long as possible.
+-- Holds if `text` is an optional exponent with the sign `negative` and the digits `digits`,
+-- followed by `rest`, and the exponent is as long as possible.
 pub record IsExponentRead (text : List ℕ) (negative : Bool) (digits rest : List ℕ) : Type 0 where
   pub front : List ℕ
   pub has_exponent : Bool

@@ -59,7 +59,9 @@ pub record IsFewFraction (number count : ℕ) (text front rest : List ℕ) : Typ
   pub few : (count + length digits ≤ 19) ⊎ ((number ≡ 0) × (length digits ≤ 19))
   pub ends : EndsDigits has_point rest
 
--- Holds if `text` is a sign, a whole part and a fraction that `f` denotes, followed by `rest`.
+-- Holds if `text` is an optional sign, a whole part and an optional fraction, followed by `rest`,
+-- and `f` has their value and their length. The fraction has at most 19 digits, and the magnitude
+-- is below `10 ^ 19`.
 pub record IsMantissa (text : List ℕ) (f : Front) (rest : List ℕ) : Type 0 where
   pub minus_text : List ℕ
   pub whole : List ℕ
@@ -102,7 +104,8 @@ pub record IsSmall (s : Significand) : Type 0 where
   pub zero : s.magnitude ≡ 0 → neg_ℤ (pos 19) ≤ℤ s.exponent
   pub num : IsNum (significand_number s)
 
--- Holds if `text` begins with the number `f` and does not continue it.
+-- Holds if the first `f.length` bytes of `text` are a number with the value of `f`, and the next
+-- byte, if any, does not continue the number and is neither a digit nor a letter.
 pub record IsFront (text : List ℕ) (f : Front) : Type 0 where
   pub within : f.length ≤ length text
   pub spelled : Spells (take f.length text) (significand_number f.significand)
@@ -110,6 +113,6 @@ pub record IsFront (text : List ℕ) (f : Front) : Type 0 where
   pub ends : EndsToken (drop f.length text)
   pub digits_end : EndsDigits f.significand.point (drop f.length text)
 
--- Holds if a significand has at most seven fraction digits and a magnitude below `2 ^ 55`.
+-- Holds if a significand has an exponent from -7 to 0 and a magnitude below `2 ^ 55`.
 abbrev pub IsCommonWord : Significand → Type 0
 IsCommonWord s = (negsuc 6 ≤ℤ s.exponent) × (s.exponent ≤ℤ pos 0) × (s.magnitude < 2 ^ 55)

@@ -1,5 +1,4 @@
--- Holds if the first `count` of 16 lanes are `'0'` and the next lane is not. The last lane is not
--- counted.
+-- Holds if `count` is the number of leading `'0'` lanes among the first 15 of 16 lanes.
 use Rattle.std.specs.Prelude.{◌≡◌, ◌≢◌, ℕ, ◌<◌, ◌≤◌, List, get_or, replicate, take}
 
 pub record IsZerosInFront (lanes : List ℕ) (count : ℕ) : Type 0 where

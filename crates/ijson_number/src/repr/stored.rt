@@ -304,10 +304,10 @@ pub enum Stored {
 impl Stored {
     ghost use Rattle.ijson_number.specs.private.Stored.{IsList, IsOtherWord, stored_form};
 
-    /// Returns `Some(true)` if both numbers are stored as the same word, and `Some(false)` if they are
-    /// stored as different words of one kind that agree on the decimal point.
+    /// Returns `Some(true)` if both numbers are stored as the same word, and `Some(false)` if they
+    /// are stored as different words of one kind that agree on the decimal point.
     ///
-    /// Returns `None` for all others: their digits decide.
+    /// Returns `None` for all other pairs of numbers: their digits decide.
     pub fn eq_by_bits(&self, other: &Stored) -> Option<bool>
         ensures same { IfSome result (λ is_same. IsTrue is_same → stored_form self.now ≡ stored_form other.now) }
         ensures different { IfSome result (λ is_same. IsFalse is_same → IsOtherWord self.now other.now) }

@@ -8,12 +8,12 @@ use Rattle.ijson_string.specs.private.Chains.{bucket_of}
 unfoldable pub filter_of : ℕ → ℕ
 filter_of hash = bit_or (bit_or (2 ^ (hash % 32)) (2 ^ (hash / 32 % 32))) (2 ^ (hash / 1024 % 32))
 
--- Returns `true` if the filter of its bucket contains all bits of `hash`.
+-- Returns `true` if the filter of the bucket of `hash` contains all bits of `hash`.
 abbrev pub passes : List ℕ → ℕ → Bool
 passes filters hash = bit_or (get_or filters (bucket_of (length filters) hash) 0) (filter_of hash) == get_or filters
     (bucket_of (length filters) hash) 0
 
--- The filters after the bits of `hash` are set in the filter of its bucket.
+-- The filters after the bits of `hash` are set in the filter of the bucket of `hash`.
 abbrev pub with_filter : List ℕ → ℕ → List ℕ
 with_filter filters hash = slice_set filters (bucket_of (length filters) hash)
     (bit_or (get_or filters (bucket_of (length filters) hash) 0) (filter_of hash))

@@ -12,7 +12,7 @@ follower_slots = 128
 abbrev pub no_follower : Follower
 no_follower = record { position = 0; len = 0 }
 
--- The followers before any string was found.
+-- The initial followers, in which no slot was written.
 abbrev pub no_followers : Followers
 no_followers = record { slots = replicate follower_slots no_follower; last = 0; next = no_follower }
 

@@ -33,8 +33,8 @@ pub record IsTable (links : List Link) (buckets : List Bucket) : Type 0 where
   pub chained : AreChained links (heads_of buckets)
   pub filtered : AllPass (filters_of buckets) (hashes_of links)
 
--- Holds if `after` are the buckets after a string with this hash is added. `link` is the index of
--- the string plus 1.
+-- Holds if `after` are the buckets after a string with the hash `hash` is added. `link` is the
+-- index of the string plus 1.
 --
 -- `link` is the head of the bucket of `hash`, and the bits of `hash` are set in the filter of this
 -- bucket.

@@ -21,7 +21,7 @@ texts_of keys = map (λ k. k.text) keys
 abbrev pub buckets_of : ℕ → List ℕ → List ℕ
 buckets_of count hashes = map (bucket_of count) hashes
 
--- Returns `true` if a key has this hash and this string.
+-- Returns `true` if a key has the hash `hash` and the string `text`.
 abbrev pub is_key : ℕ → List ℕ → Key → Bool
 is_key hash text k = nat_eq hash k.hash && bytes_eq text k.text
 
@@ -29,11 +29,11 @@ is_key hash text k = nat_eq hash k.hash && bytes_eq text k.text
 abbrev pub no_key : Key
 no_key = record { hash = 0; text = [] }
 
--- Holds if the key at index `at` has this hash and this string.
+-- Holds if the key at index `at` has the hash `hash` and the string `text`.
 abbrev pub IsKeyAt : ℕ → List ℕ → List Key → ℕ → Type 0
 IsKeyAt hash text keys at = (at < length keys) × (get_or keys at no_key ≡ record { hash = hash; text = text })
 
--- Holds if the key at index `at` has this string.
+-- Holds if the key at index `at` has the string `text`.
 abbrev pub IsTextAt : List ℕ → List Key → ℕ → Type 0
 IsTextAt text keys at = (at < length keys) × ((get_or keys at no_key).text ≡ text)
 

@@ -15,7 +15,7 @@ use Rattle.ijson_convert.proofs.pairs.Shown.{shown_next, shown_all}
 use Rattle.ijson_convert.proofs.maps_to.object_of.Goals.{In-Some, In-None}
 use Rattle.ijson_convert.proofs.maps_to.object_of.Goals as goal
 
--- The entry that the iterator yields is the next of all entries.
+-- The entry that the iterator yields is the first entry of `all` after the entries already yielded.
 next : (g : _) (c : In-Some g) (all : List (String Global × g.row.T.Denot))
     → AlwaysYields g.I.Iterator.next_gives deref_pair c.args.entries all
     → (rest : List (String Global × g.row.T.Denot))

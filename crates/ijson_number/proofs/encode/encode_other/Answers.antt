@@ -15,7 +15,8 @@ word-requires c = subst IsPlain (sym (number c)) c.requires.small.num.plain
 pub returns-in-Some-clause-form : goal.returns-in-Some-clause-form
 returns-in-Some-clause-form c = c.in-Some.ensures.word ∙ ap form_of (number (goal.at.returns-in-Some-clause-form c).After-canonical-canonical)
 
--- A number with eight or more fraction digits is stored as a list of digits.
+-- A number whose fraction has eight or more digits and does not end with 0 is stored as a list of
+-- digits.
 deep : (c : Then-exponent-ltminus7) → let n = significand_of c.args.negative c.args.magnitude c.args.exponent c.args.point in
     form_of (significand_number n) ≡ digits_form (canonical_number n)
 deep c =

@@ -4,7 +4,7 @@ use Rattle.ijson_number.proofs.writing.Writing.{float_shape, float_shape_is}
 use Rattle.ijson_number.proofs.write_display.ShapeDisplay.fmt.Goals.{After-is_scientific}
 use Rattle.ijson_number.proofs.write_display.ShapeDisplay.fmt.Goals as goal
 
--- Both branches write the text of the shape.
+-- Both branches, with and without an exponent, write the text of the shape.
 shown : (g : _) (c : After-is_scientific g) (scientific : Bool) → c.is_scientific.result ≡ scientific → let s = c.args.self.now in
     let place = to_z w128 (of_z w128 c.place_of-place.result) in
     float_shape scientific s.digits.now place ≡ shape_text s.point s.digits.now s.exponent
