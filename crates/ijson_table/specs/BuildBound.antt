@@ -1,7 +1,7 @@
--- The bound on the inspections that building a table takes.
+-- The bound on the number of inspections when a table is built.
 use Rattle.std.specs.Prelude.{ℕ, ◌+◌, ◌*◌, ◌^◌, ◌≤◌}
 
--- The number of inspections per pair, not counting the inspections of sorting.
+-- The maximum number of inspections per pair, not counting the inspections of sorting.
 abbrev pub looks_a_pair : ℕ
 looks_a_pair = 36
 

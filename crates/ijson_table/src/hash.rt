@@ -27,7 +27,7 @@ impl FixedHash {
     /// The initial hash: the offset basis of FNV (Fowler, Noll, Vo) in 64 bits.
     pub const BASIS: u64 = 14_695_981_039_346_656_037;
 
-    /// The multiplier for one byte, modulo 2^64: the prime of FNV.
+    /// The multiplier for one byte: the prime of FNV in 64 bits. The hash is computed modulo 2^64.
     ///
     /// FNV combines the hash with a byte by exclusive or. This hash adds the byte.
     pub const PRIME: u64 = 1_099_511_628_211;

@@ -1,6 +1,7 @@
 //! The hash index of a table: slots with the indices of its entries, as in Robin Hood hashing.
 //!
-//! Residents are ordered by probe distance. A slot stores the hash of its key, not the key.
+//! Residents are ordered by probe distance. A slot stores the kept part of the hash of a key, not
+//! the key.
 //!
 //! - `slots`: the slots, in a representation that depends on their number.
 //! - `places`: the trait of a table whose slots can be inspected, and `locate`, the lookup that

@@ -76,7 +76,7 @@ impl Slot {
         }
     }
 
-    /// Returns the slot after the entry at index `from` was moved to index `to`.
+    /// Returns the slot, renumbered for a move of the entry at index `from` to index `to`.
     pub fn renumbered(self, from: usize, to: usize) -> Slot
         requires from { from + 1 < 2 ^ 64 }
         requires to { to + 1 < 2 ^ 64 }
@@ -106,7 +106,7 @@ impl Slot {
     }
 }
 
-/// Returns `index` after the element at index `from` was moved to index `to`.
+/// Returns the new index of the element at `index` if the element at `from` is moved to `to`.
 ///
 /// The indices in between change by one.
 #[inline(always)]

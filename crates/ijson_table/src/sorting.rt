@@ -1,4 +1,4 @@
-//! Building tables by sorting, which bounds the time for all keys.
+//! Building tables by sorting, which bounds the time even if many keys collide.
 
 pub mod build;
 pub mod duplicates;

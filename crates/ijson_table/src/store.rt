@@ -22,7 +22,7 @@ pub enum ReserveError {
     TooLarge,
 }
 
-/// Converts to `Memory`.
+/// Converts an allocation error to `Memory`.
 impl From<AllocError> for ReserveError {
     ghost use Rattle.std.specs.Prelude.{◌≡◌};
     ghost use Rattle.ijson_table.specs.declared.store.ReserveError.TheVariants.{Memory};
@@ -67,11 +67,12 @@ impl<V: Drop> From<RefusedPair<V>> for ReserveError {
 ///
 /// # Cost
 ///
-/// Each entry of the capacity takes 16 bytes and the size of a value. A `Table` takes 20 more bytes
-/// per entry, or 4 up to a capacity of 127, or 0 up to a capacity of 8.
+/// Each entry of the capacity takes 16 bytes and the size of a value. A `Table` takes more per
+/// entry: nothing up to a capacity of 8, at most 4 bytes up to a capacity of 127, and at most 20
+/// bytes above.
 ///
-/// A table that grows, shrinks or is copied hashes each key once, or twice if many keys collide. A
-/// copy with the same number of slots hashes no key.
+/// A table that grows or shrinks hashes each key once, or twice if many keys collide. So does a
+/// copy with a different number of slots. A copy with the same number of slots hashes no key.
 pub trait PairStore<V>: Sized {
     /// The entries, in order.
     ghost pairs: { Self → List (List ℕ × V) };
@@ -113,8 +114,8 @@ pub trait PairStore<V>: Sized {
     ///
     /// # Cost
     ///
-    /// A growth moves each entry at most once. A table also fills new slots, in time linear in both
-    /// capacities if few keys collide.
+    /// A growth moves each entry at most once. A table also fills new slots, in time linear in the
+    /// old and the new capacity if few keys collide.
     ///
     /// If there are more than 127 keys and many of them collide, a table sorts hashed indices of 16
     /// bytes each in temporary memory. The time is at most O(n log n) for all keys.
@@ -185,8 +186,8 @@ pub trait PairStore<V>: Sized {
     ///
     /// # Cost
     ///
-    /// Constant for a list. A table hashes both keys, and shifts residents backward. Nothing is
-    /// allocated.
+    /// Constant for a list. A table hashes the removed key and the last key, and shifts residents
+    /// backward. Nothing is allocated.
     fn swap_out(&mut self, index: usize) -> (IString, V)
         requires { index < length (pairs self.old) }
         ensures pair { slice_get (pairs self.old) index ≡ Some result }

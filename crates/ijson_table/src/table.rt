@@ -40,7 +40,7 @@ use std::{fmt, mem, slice};
 ///
 /// There are five slots for every four entries of the capacity. Up to a capacity of 127, a slot
 /// takes three bytes, and keeps the home slot and eight more bits of a hash; up to a capacity of 8,
-/// these slots are inline. Above 127, a slot takes 16 bytes, and keeps the hash.
+/// these slots are inline. Above 127, a slot takes 16 bytes, and keeps the full hash.
 ///
 /// # Cost
 ///
@@ -266,8 +266,8 @@ impl<V: Drop, H: KeyHash> Table<V, H> {
     ///
     /// # Cost
     ///
-    /// Hashes both keys, and inspects the collision clusters of their home slots. Nothing is
-    /// allocated.
+    /// Hashes the old and the new key, and inspects the collision clusters of their home slots.
+    /// Nothing is allocated.
     pub fn replace_key_at(&mut self, index: usize, key: IString) -> IString
         requires within { index < length self.old.store.pairs }
         requires missing { at self.old.store.pairs key ≡ None }

@@ -1,5 +1,5 @@
--- Elements and values are at most as deep as the array or object that contains them, so recursion
--- over a value terminates.
+-- Elements and values have a smaller depth than the array or object that contains them, so
+-- recursion over a value terminates.
 use Rattle.std.proofs.Common.{◌≡◌, ℕ, zero, suc, ◌+◌, ◌*◌, ◌<◌, ◌≤◌, List, [], ◌∷◌, ◌∙◌, length, get_or, arith, ap, sym}
 use denote.Param.Weighed.{most}
 use Rattle.ijson_table.specs.Store.{Store}

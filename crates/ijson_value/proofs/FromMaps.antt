@@ -36,7 +36,7 @@ module _ {K X : Type 0} (bytes : K → List ℕ) where
   lacks_apart Apart never x (e ∷ es) a =
       (λ q. never (bytes x) (subst (Apart (bytes x)) (sym q) a.0), lacks_apart Apart never x es a.1)
 
-  -- Keys are distinct if no two of them are equal.
+  -- If `IsUnique` holds for the keys of a map, compared by their bytes, then the keys are distinct.
   pub unique_keys : (es : List (K × X)) → IsUnique (λ x y. pointwise nat_eq (bytes x) (bytes y)) (map_keys es)
       → IsDistinct (map (λ e. bytes e.0) es)
   unfolding IsUnique

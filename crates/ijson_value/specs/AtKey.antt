@@ -19,6 +19,6 @@ swap_out_key key pairs = out_at swap_out (at pairs key) pairs
 abbrev pub shift_out_key : {V : Type 0} → List ℕ → List (List ℕ × V) → List (List ℕ × V)
 shift_out_key key pairs = out_at shift_out (at pairs key) pairs
 
--- The entries with the key `from` replaced by `to`, or `pairs` if `from` is missing.
+-- Replaces the key `from` by `to`, or returns `pairs` if `from` is missing.
 abbrev pub renamed_key : {V : Type 0} → List ℕ → List ℕ → List (List ℕ × V) → List (List ℕ × V)
 renamed_key from to pairs = out_at (λ ps i. with_key ps i to) (at pairs from) pairs

@@ -1,4 +1,4 @@
--- The results of `entry` and `entry_or_clone`, and the object that they leave.
+-- The results of `entry` and `entry_or_clone`, and the object after the call.
 use Rattle.std.specs.Prelude.{◌≡◌, ◌<◌, ◌⊎◌, ℕ, List, None, IsSome, length}
 use Rattle.ijson_table.specs.Growth.{Grown, Ungrown}
 use Rattle.ijson_table.specs.Store.{Store, at, lookup}

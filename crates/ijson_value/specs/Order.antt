@@ -31,8 +31,8 @@ abbrev mutual
   tree_cmp (object ps) (object qs) = cond (same (object ps) (object qs)) (Some Equal) None
   tree_cmp t u = Some (nat_cmp (rank t) (rank u))
 
-  -- The first order of two elements that is not `Equal`, or else the order of the lengths. The
-  -- result is `None` if those elements are unordered.
+  -- The order of the first two elements at the same index that are not `Equal`, or else the order
+  -- of the lengths. The order of two elements may be `None`.
   pub items_cmp : Items → Items → Option Ordering
   items_cmp no_items no_items = Some Equal
   items_cmp no_items (item u us) = Some Less

@@ -1,6 +1,6 @@
 -- The effect of `retain`, as in the Rust crate `ijson`. Entries are visited from the first. A kept
--- entry has the value that the call wrote. The last entry replaces a removed entry and is visited
--- next.
+-- entry has the value that the closure wrote. The last entry replaces a removed entry and is
+-- visited next.
 use Rattle.std.specs.Prelude.{◌≡◌, ℕ, zero, suc, ◌+◌, Bool, List, length, slice_get, Some, if◌then◌else◌}
 use Rattle.ijson_table.specs.Store.{with_value, swap_out}
 

@@ -23,8 +23,8 @@ abbrev mutual
   item_words no_items = []
   item_words (item t ts) = words t ++ item_words ts
 
-  -- The sum of the folds of all members. The fold of a member combines the words of its key and of
-  -- its value.
+  -- The sum of the folds of all members. The fold of a member folds the words of its key, then the
+  -- words of its value.
   pub pair_sum : Members → ℕ
   pair_sum no_members = 0
   pair_sum (member k t ps) = fold_words (text_words k ++ words t) + pair_sum ps

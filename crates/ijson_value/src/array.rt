@@ -59,7 +59,8 @@ impl Model for IArray {
 
 /// An element that could not be added because an allocation failed.
 ///
-/// The element did not change the array. After `extend`, the array has the elements before it.
+/// After a failed `extend`, the array has the elements before the returned element. After any other
+/// failed call, the array is unchanged.
 #[derive(Debug, Drop, Error)]
 #[error("no memory for the element")]
 pub struct Refused(pub IValue);

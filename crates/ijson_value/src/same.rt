@@ -38,7 +38,8 @@ pub(crate) fn same_items(xs: &[IValue], ys: &[IValue]) -> bool
     true
 }
 
-/// Returns `true` if the objects have the same length and each key has equal values in both.
+/// Returns `true` if the objects have the same length and each key has equal values in both
+/// objects.
 #[cycle(same)]
 pub(crate) fn same_pairs(a: &IObject, b: &IObject) -> bool
     ensures { result ≡ same (object_tree a.now.pairs) (object_tree b.now.pairs) }

@@ -104,7 +104,7 @@ fn add_items(items: &[IValue], state: &mut WordFold)
 
 /// Returns the sum of the folds of all entries, modulo `2 ^ 64`.
 ///
-/// The fold of an entry combines the words of its key and of its value.
+/// The fold of an entry folds the words of its key, then the words of its value.
 ///
 /// The sum does not depend on the order of the entries.
 #[cycle(fold)]

@@ -74,7 +74,8 @@ pub distance-seen : (n e x p : ℕ) → e < n → x < n → p < n
 unfolding distance
 distance-seen n e x p a b c = grind (arith, nat_tests)
 
--- The slot `k` slots after the slot `j` slots after `p` is `j + k` slots after `p`.
+-- Moving forward from `p` by `j` slots and then by `k` slots reaches the slot `j + k` slots after
+-- `p`.
 pub onward-onward : (n p j k : ℕ) → p < n → j < n → j + k < n → onward n (onward n p j) k ≡ onward n p (j + k)
 unfolding onward
 onward-onward n p j k a b c = grind (arith, nat_tests)
@@ -89,7 +90,8 @@ pub distance-round : (n p t : ℕ) → p < n → t < n → distance n (onward n 
 unfolding onward distance
 distance-round n p t a b = grind (arith, nat_tests)
 
--- The slot `j` slots after the slot `t` slots before `p` is the slot `t - j` slots before `p`.
+-- Moving back from `p` by `t` slots and then forward by `j ≤ t` slots reaches the slot `t - j`
+-- slots before `p`.
 pub onward-round : (n p t j : ℕ) → p < n → t < n → j ≤ t → onward n (onward n p (n - t)) j ≡ onward n p (n - (t - j))
 unfolding onward
 onward-round n p t j a b c = grind (arith, nat_tests)

@@ -12,7 +12,7 @@ use Rattle.ijson_table.specs.private.Homes.{home_of_entry, next_after, passing}
 use Rattle.ijson_table.specs.private.Sorting.{past_last, IsSortedBy}
 use Rattle.ijson_table.proofs.firsts.KeyTies.{homes_ascend, sorted_at}
 
--- The slot with number `p`, below `2 * n`, after wrapping around `n` slots.
+-- The slot number `p`, which is below `2 * n`, after it wraps around `n` slots.
 unfoldable pub wrapped : ℕ → ℕ → ℕ
 wrapped n p = (if ltb p n then p else p - n)
 
@@ -80,8 +80,8 @@ module _ (n : ℕ) (sorted : List HashedIndex) (room : length sorted ≤ n) (key
   h-ascends : (j k : ℕ) → j < k → k < m → h j ≤ h k
   h-ascends j k less lk = homes_ascend n keys (get_or sorted j past_last) (get_or sorted k past_last) (sorted_at (entry_before n keys) sorted ordered j k less lk)
 
-  -- The slot after all elements is bounded by the home slot of element `k` and the number of later
-  -- elements.
+  -- The sum `n + w` is at most `n`, or exceeds the maximum of `h k + k` and `n - 1` by at most
+  -- `m - k`.
   split : (k : ℕ) → k < m → n + w + k ≤ max (n + k) (max (h k + k) (n - 1) + m)
   split k lk = omega (
     arith,

@@ -16,8 +16,8 @@ use Rattle.ijson_table.proofs.building.EntriesInOrder.{entry_within}
 use Rattle.ijson_table.proofs.firsts.KeyTies.{between, lower_first, same_entry_key, sorted_at, tied}
 use Rattle.ijson_table.proofs.slots.Residents.{stands, stands_once}
 
--- Holds after the first `k` elements of `sorted` are read. `earlier` has an earlier index for each
--- element read. `last` is the previous element, or the first element if `k` is 0.
+-- Holds after the first `k` elements of `sorted` are read: `earlier` has, for the index of each of
+-- them, an index that satisfies `IsEarlier`. `last` is element `k - 1`, or element 0 if `k` is 0.
 pub record EarlierSoFar (keys : List (List ℕ)) (sorted : List HashedIndex) (k : ℕ) (last : HashedIndex) (earlier : List ℕ) : Type 0 where
   pub count : length earlier ≡ length keys
   pub last_is : last ≡ get_or sorted (k - 1) past_last
@@ -127,8 +127,8 @@ module _ {n : ℕ} {hash : List ℕ → ℕ} (keys : List (List ℕ)) (sorted : 
             inl (omega (arith, lower, apart, there), ap (λ i. get_or keys i []) (sym there) ∙ key)
       ]
 
-  -- If `EarlierSoFar` holds for `k` elements, it holds for `k + 1` elements after an earlier index
-  -- of element `k` is written.
+  -- If `EarlierSoFar` holds for `k` elements, it holds for `k + 1` elements after an index that
+  -- satisfies `IsEarlier` for element `k` is written.
   pub goes_on : (k q : ℕ) (last : HashedIndex) (earlier : List ℕ) → k < length sorted → EarlierSoFar keys sorted k last earlier
       → IsEarlier keys (get_or sorted k past_last).index q
       → EarlierSoFar keys sorted (k + 1) (get_or sorted k past_last) (set earlier (get_or sorted k past_last).index q)

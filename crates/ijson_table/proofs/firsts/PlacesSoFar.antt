@@ -1,4 +1,5 @@
--- Pairs are inserted in order within their list, by an earlier index of each key.
+-- Lemmas about inserting pairs in order within their list, given an earlier index of each duplicate
+-- key.
 use Rattle.std.proofs.Common.{◌≡◌, ◌≢◌, ℕ, ◌+◌, ◌<◌, ◌≤◌, inl, inr, arith, List, [], ◌∷◌, ◌++◌, length, get_or, set, take, drop}
 use Rattle.std.proofs.Common.{Some, None, refl, sym, ap, ap₂, subst, ◌∙◌, get_or-set_other, get_or-set_same, length-take-le, le_of_lt}
 use Rattle.std.specs.Prelude.{swap}
@@ -11,9 +12,10 @@ use Rattle.ijson_table.proofs.firsts.PutPlaces.{at-put_each, at-put_kept, at-put
 use Rattle.ijson_table.proofs.pairs.PairsByKey.{key_at, keys-length}
 use Rattle.ijson_table.proofs.pairs.PutInPlace.{before, Moved, moved_first, moved_left, next, next_key, one_more, over_left, over_put}
 
--- Holds after the first `n` pairs of `all` are inserted. The first `k` pairs are the result, and
--- the pairs from `n` on are unchanged. For each index below `n`, `places` has the index of its key
--- among the first `k` pairs. From `n` on, `places` equals `earlier`.
+-- Holds after the first `n` pairs of `all` are inserted. The first `k` pairs of `pairs` are the
+-- result, and the pairs from index `n` on are unchanged. For each `i` below `n`, `places` has at
+-- `i` the index of key `i` of `all` among the first `k` pairs. From index `n` on, `places` equals
+-- `earlier`.
 pub record PlacesSoFar {V : Type 0} (all pairs : List (List ℕ × V)) (earlier places : List ℕ) (k n : ℕ) : Type 0 where
   pub within : k ≤ n
   pub put : take k pairs ≡ put_each [] (take n all)
@@ -92,8 +94,8 @@ module _ {V : Type 0} (all : List (List ℕ × V)) (earlier : List ℕ) (are : A
   place_of : e ≢ n → (place : ℕ) → place ≡ get_or places e place → at (take k pairs) pair.0 ≡ Some place
   place_of other place read = (earlier_one other).1 ∙ ap Some (sym (get_or_read places e place (within other) read 0))
 
-  -- If `e` is not `n`, the number that is read at index `e` of `places` is below the length of the
-  -- list.
+  -- If `e` is not `n`, the number that is read at index `e` of `places` is below the number of
+  -- pairs.
   pub place_below : e ≢ n → (place : ℕ) → place ≡ get_or places e place → place < length new
   place_below other place read = omega (
     arith,

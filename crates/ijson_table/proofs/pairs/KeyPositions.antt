@@ -39,7 +39,8 @@ pub position-distinct : (keys : List (List ℕ)) (key : List ℕ) (i : ℕ) → 
 position-distinct keys key i d li e = position-first keys key i li e
     (λ j lj same. let it : j ≡ i = apart keys d j i (omega arith) li (same ∙ sym e) in omega arith)
 
--- If an index plus one is `i`, the index is one less than `i`.
+-- If an optional index plus one is `Some i`, the optional index is `Some j` with `j` one less than
+-- `i`.
 shifted : (o : Option ℕ) (i : ℕ) → option_map (λ i. i + 1) o ≡ Some i → (j : ℕ) × (o ≡ Some j) × (suc j ≡ i)
 shifted None i e = cc
 shifted (Some j) i e = let more : j + 1 ≡ i = cc in (j, refl, omega (arith, more))
@@ -49,8 +50,8 @@ none_shifted : (o : Option ℕ) → option_map (λ i. i + 1) o ≡ None → o �
 none_shifted None e = refl
 none_shifted (Some j) e = cc
 
--- If `key` has index `i` in `k ∷ ks`, then `key` is `k` and `i` is 0, or `i` is one more than the
--- index of `key` in `ks`.
+-- If `key` has index `i` in `k ∷ ks`, then `key` is `k` and `i` is 0, or `key` differs from `k` and
+-- `i` is one more than the index of `key` in `ks`.
 pub head_or_tail : (k : List ℕ) (ks : List (List ℕ)) (key : List ℕ) (i : ℕ) → position_of (k ∷ ks) key ≡ Some i
     → ((bytes_eq k key ≡ true) × (k ≡ key) × (0 ≡ i)) ⊎
     ((bytes_eq k key ≡ false) × (k ≢ key) × (j : ℕ) × (position_of ks key ≡ Some j) × (suc j ≡ i))

@@ -18,7 +18,7 @@ module _ {V : Type 0} where
   keys-with_key (p ∷ ps) zero key = refl
   keys-with_key (p ∷ ps) (suc i) key = ap (λ ks. p.0 ∷ ks) (keys-with_key ps i key)
 
-  -- If a missing key differs from the new key, it remains missing after a key is replaced.
+  -- A missing key that differs from the new key remains missing after a key is replaced.
   lacks_with_key : (k : List ℕ) (pairs : List (List ℕ × V)) (i : ℕ) (key : List ℕ) → Lacks k (keys_of pairs) → k ≢ key
       → Lacks k (keys_of (with_key pairs i key))
   lacks_with_key k [] i key l other = tt

@@ -1,4 +1,4 @@
--- Lists of pairs after a change: their keys are distinct, and each key has its index and its value.
+-- Lemmas about the keys of a list of pairs, their indices and their values, also after a change.
 use Rattle.std.proofs.Common.{◌≡◌, ◌≢◌, ℕ, zero, suc, ◌+◌, ◌-◌, ◌<◌, inl, inr, arith, List, [], ◌∷◌, ◌++◌, length, get_or, set, take}
 use Rattle.std.proofs.Common.{eqb, if◌then◌else◌, Some, None, refl, sym, ap, subst, ◌∙◌, get_or-set_other, length-take}
 use Rattle.std.specs.Prelude.{swap_remove, slice_get}
@@ -111,7 +111,7 @@ module _ {V : Type 0} where
       (grind (arith, nat_tests, keys-length pairs)) (omega (arith, keys-length pairs)) (sym (came_from pairs i j li lj') ∙ e) in
       grind (arith, nat_tests, same))
 
-  -- If a missing key differs from the key of an appended pair, it remains missing.
+  -- A missing key that differs from the key of an appended pair remains missing.
   lacks_pushed : (key : List ℕ) (pairs : List (List ℕ × V)) (pair : List ℕ × V) → Lacks key (keys_of pairs) → key ≢ pair.0
       → Lacks key (keys_of (pairs ++ pair ∷ []))
   lacks_pushed key [] pair l other = (other, tt)

@@ -53,8 +53,8 @@ crowd-at hash keys c key n size s ls =
     omega (arith, here, ap (λ k. homed hash k keys (home_of hash k key) s) size)
 
 module _ (hashes : List ℕ) (slots : List (Option ℕ)) (t : IsTable hashes slots) where
-  -- The home slot of a resident in the run after the empty slot `e` is at most `s` slots before
-  -- `h`.
+  -- If the resident `j + 1` slots after the empty slot `e` is at least `j - s` slots from its home
+  -- slot, then its home slot is at most `s` slots before `h`.
   counts : (e h s j i : ℕ) → e < length slots → h < length slots → displacement hashes slots e ≡ 0 → distance (length slots) e h ≡ s + 1
       → j + 1 < length slots → resident slots (onward (length slots) e (j + 1)) ≡ Some i
       → j + 1 ≤ s + distance (length slots) (home_at (length slots) hashes i) (onward (length slots) e (j + 1)) + 1

@@ -69,7 +69,7 @@ looks_at_slot n hashes slots p there same seeks (Resident i d sought) size at ha
   seen.2 ∙ is i seen.0,
 )
 
--- If `same` is true exactly if the key of the resident is `key`, the inspection satisfies `Sees`.
+-- If `same` is whether the key of the resident is `key`, the inspection satisfies `Sees`.
 pub sees_slot : (n : ℕ) (hash : List ℕ → ℕ) (keys : List (List ℕ)) (slots : List (Option ℕ)) (p : ℕ) (there : Slot) (same : Bool)
     (key : List ℕ) (seen : Seen) → n ≡ length slots → position_in there ≡ resident slots p → HasHash n (map hash keys) there
     → SeenAs there n p same seen → ((i : ℕ) → position_in there ≡ Some i → IsTrue same ↔ (get_or keys i [] ≡ key))

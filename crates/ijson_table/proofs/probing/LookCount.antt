@@ -1,4 +1,4 @@
--- Bounds on the inspections of a lookup.
+-- Bounds on the number of inspections of a lookup.
 use Rattle.std.proofs.Common.{◌≡◌, ◌≢◌, ℕ, zero, suc, ◌+◌, ◌<◌, ◌≤◌, inl, inr, arith, List, length, map, get_or, replicate, Option, Some}
 use Rattle.std.proofs.Common.{None, refl, ap, subst}
 use Rattle.std.specs.Prelude.{sum}
@@ -72,8 +72,8 @@ module _ (hash : List ℕ → ℕ) (keys : List (List ℕ)) (slots : List (Optio
   abbrev hashes : List ℕ
   hashes = map hash keys
 
-  -- If a lookup passes `m` slots and inspects at most `m + 1` slots, its inspections are within the
-  -- bounds.
+  -- If a lookup passes `m` slots and inspects at most `m + 1` slots, the number of inspections is
+  -- within the bounds.
   bounded_by : (c : ℕ) → length slots ≡ slot_count c → (key : List ℕ) (m looks : ℕ) → 0 < looks → m ≤ length slots
       → looks ≤ length slots → looks ≤ m + 1
       → Passed (displacement hashes slots) (length slots) (home_of hash (length slots) key) m → IsBounded hash keys slots c key looks
@@ -93,14 +93,14 @@ module _ (hash : List ℕ → ℕ) (keys : List (List ℕ)) (slots : List (Optio
     some_look = λ _. some;
   }
 
-  -- If a lookup ends at the slot after the `m` slots that it passes, its inspections are within the
-  -- bounds.
+  -- If a lookup ends at the slot after the `m` slots that it passes, the number of inspections is
+  -- within the bounds.
   pub bounded_there : (c : ℕ) → length slots ≡ slot_count c → (key : List ℕ) (m looks : ℕ) → m < length slots → looks ≡ m + 1
       → Passed (displacement hashes slots) (length slots) (home_of hash (length slots) key) m → IsBounded hash keys slots c key looks
   bounded_there c size key m looks lm is passed =
       bounded_by c size key m looks (omega arith) (omega arith) (omega arith) (omega arith) passed
 
-  -- If a lookup passes all slots, its inspections are within the bounds.
+  -- If a lookup passes all slots, the number of inspections is within the bounds.
   pub bounded_all : (c : ℕ) → length slots ≡ slot_count c → (key : List ℕ) (looks : ℕ) → looks ≡ length slots
       → Passed (displacement hashes slots) (length slots) (home_of hash (length slots) key) (length slots)
       → IsBounded hash keys slots c key looks

@@ -1,4 +1,4 @@
--- The consequences of each end of a probe for a key.
+-- Lemmas about each result of a probe for a key: `Found`, `Vacant` and `Full`.
 use Rattle.std.proofs.Common.{◌≡◌, ◌≢◌, ℕ, ◌%◌, ◌<◌, ◌≤◌, inl, inr, arith, Bool, List, [], ◌∷◌, ◌++◌, length, map, get_or}
 use Rattle.std.proofs.Common.{Option, Some, sym, ap, subst, ◌∙◌}
 use Rattle.std.proofs.lemmas.List.{length-map}
@@ -115,7 +115,7 @@ module _ (hash : List ℕ → ℕ) (keys : List (List ℕ)) (slots : List (Optio
         (displacement-none hashes slots e.0 e.2) ends.0,
   )
 
-  -- The inspections of a probe for `key` are within the bounds.
+  -- The number of inspections of a probe for `key` is within the bounds.
   pub bounded : (c : ℕ) → length slots ≡ slot_count c → (end : Probed) (looks : ℕ)
       → Ends slots (displacement hashes slots) home seeks looks end → IsBounded hash keys slots c key looks
   bounded c size (Found i p) looks ends = bounded_there hash keys slots t c size key ends.0 looks ends.1.within ends.1.looked ends.1.passed

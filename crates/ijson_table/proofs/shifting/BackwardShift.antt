@@ -31,7 +31,8 @@ unfolding total
 total-same f g zero h = refl
 total-same f g (suc n) h = let rest = total-same f g n (λ q lq. h q (omega arith)) in omega (arith, rest, h n (omega arith))
 
--- If two functions differ only at `p`, their sums differ as much as their values at `p`.
+-- If two functions differ only at `p`, which is below `n`, their sums differ by as much as their
+-- values at `p`.
 total-one : (f g : ℕ → ℕ) (n p : ℕ) → p < n → ((q : ℕ) → q ≢ p → g q ≡ f q) → total g n + f p ≡ total f n + g p
 unfolding total
 total-one f g zero p lp h = absurd (omega arith)

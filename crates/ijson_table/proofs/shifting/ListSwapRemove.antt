@@ -9,13 +9,13 @@ pub length-swap_remove : (xs : List ℕ) (i : ℕ) → i < length xs → length 
 length-swap_remove xs i li =
     omega (arith, length-take (length xs - 1) (set xs i (get_or xs (length xs - 1) 0)), length-set xs i (get_or xs (length xs - 1) 0))
 
--- After `swap_remove`, the number at index `i` is the old last number.
+-- If `i` is not the last index, the number at index `i` after `swap_remove` is the old last number.
 pub swap_remove-same : (xs : List ℕ) (i : ℕ) → i + 1 < length xs → get_or (swap_remove xs i 0) i 0 ≡ get_or xs (length xs - 1) 0
 swap_remove-same xs i li =
     get_or-take (length xs - 1) (set xs i (get_or xs (length xs - 1) 0)) i 0 (omega arith)
     ∙ get_or-set_same xs i (get_or xs (length xs - 1) 0) 0 (omega arith)
 
--- `swap_remove` keeps the numbers at other indices.
+-- `swap_remove` keeps each number except the number at index `i` and the last number.
 pub swap_remove-other : (xs : List ℕ) (i j : ℕ) → i < length xs → j + 1 < length xs → j ≢ i
     → get_or (swap_remove xs i 0) j 0 ≡ get_or xs j 0
 swap_remove-other xs i j li lj ne =

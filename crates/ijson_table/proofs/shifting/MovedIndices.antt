@@ -94,11 +94,11 @@ distinct_relocated pairs from to pair d lf lt is =
     (sym (came j) ∙ (e ∙ came k)) in
     sym (moved-back to from j) ∙ ap (moved from to) same ∙ moved-back to from k))
 
--- The resident `o` after the item at index `from` is moved to index `to`.
+-- The resident `o`, renumbered for a move of the item at index `from` to index `to`.
 abbrev moved_resident : ℕ → ℕ → Option ℕ → Option ℕ
 moved_resident from to o = option_map (moved from to) o
 
--- The renumbered code of a slot has the moved index of the slot.
+-- Decoding a renumbered code yields the renumbered resident.
 position-coded : (from to code : ℕ) → coded_position (moved (from + 1) (to + 1) code) ≡ moved_resident from to (coded_position code)
 position-coded from to zero = let none : moved (from + 1) (to + 1) 0 ≡ 0 = grind (arith, nat_tests) in ap coded_position none
 position-coded from to (suc i) =

@@ -27,8 +27,8 @@ module _ (hashes : List ℕ) (slots : List (Option ℕ)) where
   displacement-set_other p q o ne = ap (λ n. displaced n hashes q (resident (set slots p o) q)) (length-set slots p o)
       ∙ ap (displaced (length slots) hashes q) (get_or-set_other slots p q o None ne)
 
--- If values change only at slot `p`, and are in order before and after `p`, they are in order at
--- each slot.
+-- If `f` is ordered, `g` differs from `f` only at slot `p`, and `g` is ordered from the slot before
+-- `p` to the slot after `p`, then `g` is ordered.
 pub ordered_but : (f g : ℕ → ℕ) (n p : ℕ) → ((q : ℕ) → q < n → f (after n q) ≤ f q + 1) → ((q : ℕ) → q ≢ p → g q ≡ f q)
     → g (after n p) ≤ g p + 1 → ((q : ℕ) → q < n → q ≢ p → after n q ≡ p → g p ≤ g q + 1) → (q : ℕ) → q < n → g (after n q) ≤ g q + 1
 ordered_but f g n p ordered same next before q lq = elim (cases_eq q p) [
@@ -80,7 +80,8 @@ apart_of : (n e p : ℕ) → p < n → e < n → after n p ≡ p → (e ≢ p) �
 unfolding after
 apart_of n e p lp le same ne = ne (grind (arith, nat_tests))
 
--- If a slot is empty, the old resident of a written slot may be inserted at the next slot.
+-- If ordered slots include an empty slot, and index `k` is displaced in slot `p` at least as far as
+-- the resident of `p`, that resident may be inserted at the next slot after `k` is written to `p`.
 pub taken_up : (hashes : List ℕ) (slots : List (Option ℕ)) (k j p e : ℕ) → p < length slots → e < length slots → IsOrdered hashes slots
     → displacement hashes slots e ≡ 0 → resident slots p ≡ Some j
     → displacement hashes slots p ≤ distance (length slots) (home_at (length slots) hashes k) p + 1

@@ -99,7 +99,8 @@ module _ (n : ℕ) (hashes : List ℕ) where
       (λ i e. same p i (omega (arith, lp, positions-length slots)) (position-at slots p (Some i) lp (sym e))))
 
   -- If `hashes'` agrees with `hashes` at the residents of all slots except `p`, the slots satisfy
-  -- `HaveHashes` for `hashes'` after a slot that satisfies `HasHash` is written to `p`.
+  -- `HaveHashes` for `hashes'` after a slot that satisfies `HasHash` for `hashes'` is written to
+  -- `p`.
   pub hashes-put : (hashes' : List ℕ) (slots : List Slot) (p : ℕ) (slot : Slot) → HaveHashes n hashes slots → HasHash n hashes' slot
       → ((q i : ℕ) → q < length (positions slots) → q ≢ p → resident (positions slots) q ≡ Some i → get_or hashes' i 0 ≡ get_or hashes i 0)
       → HaveHashes n hashes' (set slots p slot)

@@ -16,7 +16,8 @@ one_if-same i = grind (arith, nat_tests)
 one_if-at : (i : ℕ) (o : Option ℕ) → o ≡ Some i → one_if i o ≡ 1
 one_if-at i o e = ap (one_if i) e ∙ one_if-same i
 
--- Writing a slot adds its new resident to the number of occurrences and subtracts its old resident.
+-- Writing a slot adds 1 to the occurrences of index `i` if the new resident is `i`, and subtracts 1
+-- if the old resident is `i`.
 pub times-set : (i : ℕ) (slots : List (Option ℕ)) (p : ℕ) (o : Option ℕ) → p < length slots
     → times i (set slots p o) + one_if i (resident slots p) ≡ times i slots + one_if i o
 unfolding times
@@ -37,8 +38,7 @@ pub some_position : (o : Option ℕ) → o ≢ None → (i : ℕ) × (o ≡ Some
 some_position None not = absurd (not refl)
 some_position (Some i) not = (i, refl)
 
--- The occurrences of an index in `o ∷ slots` are the occurrences in `slots`, plus 1 if `o` is the
--- index.
+-- An index occurs in `o ∷ slots` as often as in `slots`, and once more if `o` is the index.
 pub times-cons : (i : ℕ) (o : Option ℕ) (slots : List (Option ℕ)) → times i (o ∷ slots) ≡ one_if i o + times i slots
 unfolding times
 times-cons i o slots = sum_by-cons (one_if i) o slots
@@ -73,8 +73,8 @@ pub times-nil : (i : ℕ) → times i [] ≡ 0
 unfolding times
 times-nil i = refl
 
--- The occurrences of an index in the first `n + 1` slots are the occurrences in the first `n`
--- slots, plus 1 if slot `n` holds the index.
+-- An index occurs in the first `n + 1` slots as often as in the first `n` slots, and once more if
+-- slot `n` holds the index.
 pub times-more : (i : ℕ) (slots : List (Option ℕ)) (n : ℕ) → n < length slots
     → times i (take (suc n) slots) ≡ times i (take n slots) + one_if i (resident slots n)
 unfolding times

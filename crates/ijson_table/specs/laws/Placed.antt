@@ -1,5 +1,5 @@
--- `Placed` has a code. The invariant of a table is a proposition, and depends on the entries only
--- by their keys.
+-- `Placed` has a code. The invariant of a table is a proposition, and depends only on the keys of
+-- the entries, not on the values.
 use Rattle.std.specs.Prelude.{◌≡◌, ℕ, List, map, length, Option, refl}
 use Rattle.std.specs.Coded.{Coded, code_by, coded×, coded_list, coded_ℕ, coded_option}
 use Rattle.std.proofs.Common.{subst}

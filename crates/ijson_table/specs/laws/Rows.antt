@@ -25,7 +25,8 @@ crowd_of_none : crowd by_length [] 0 (97 ∷ []) ≡ 0
 unfolding crowd homed distance
 crowd_of_none = refl
 
--- The first slot is empty, and the next slots hold a, c, bb and dd.
+-- If the first slot is empty and the next slots hold a, c, bb and dd, the displacements are 0, 1,
+-- 2, 2 and 3.
 displacements : map (displacement (map by_length four) (None ∷ Some 0 ∷ Some 2 ∷ Some 1 ∷ Some 3 ∷ []))
     (0 ∷ 1 ∷ 2 ∷ 3 ∷ 4 ∷ []) ≡ 0 ∷ 1 ∷ 2 ∷ 2 ∷ 3 ∷ []
 unfolding displacement home_at distance

@@ -46,7 +46,7 @@ pub record IsTableOf (hashes : List ℕ) (slots : List Slot) : Type 0 where
   pub table : IsTable hashes (positions slots)
   pub hashes_are : HaveHashes (length slots) hashes slots
 
--- Holds if the slots are a table of keys with these hashes after index `gone` is removed.
+-- Holds if the slots are a table of keys with these hashes, without index `gone`.
 pub record IsTableBut (hashes : List ℕ) (gone : ℕ) (slots : List Slot) : Type 0 where
   pub holds : Holds hashes (below (length hashes)) (Some gone) (positions slots)
   pub hashes_are : HaveHashes (length slots) hashes slots

@@ -16,9 +16,9 @@ found_at (Found at p) = Some at
 found_at (Vacant p) = None
 found_at Full = None
 
--- Holds if the lookup of `key` may end this way. `Found` has the index of the key. `Vacant` means
--- that the key is missing, and has the slot at which it may be inserted as the last key. `Full`
--- means that the key is missing and no slot is empty.
+-- Holds if the lookup of `key` may end this way. `Found` means that `key` is at index `at`.
+-- `Vacant` means that `key` is missing and may be inserted as the last key at slot `p`. `Full`
+-- means that `key` is missing and no slot is empty.
 abbrev pub LookUpEnds : List ℕ → List (List ℕ) → List (Option ℕ) → ℕ → List ℕ → Probed → Type 0
 LookUpEnds hashes keys slots hash key (Found at p) = position_of keys key ≡ Some at
 LookUpEnds hashes keys slots hash key (Vacant p) =

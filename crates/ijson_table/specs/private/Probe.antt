@@ -23,8 +23,8 @@ LooksAt slots displacements seeks p Empty = (resident slots p ≡ None) × (disp
 LooksAt slots displacements seeks p (Resident i d same) =
     (resident slots p ≡ Some i) × (displacements p ≡ d + 1) × (same ≡ seeks i)
 
--- Holds if a probe from home slot `h` passes `m` of `n` slots. Each slot has a resident that is
--- displaced at least as far as the target would be in that slot.
+-- Holds if a probe from home slot `h` passes the first `m` of `n` slots: each of these `m` slots
+-- has a resident that is displaced at least as far as the target would be in that slot.
 pub record Passed (displacements : ℕ → ℕ) (n h m : ℕ) : Type 0 where
   pub far : (j : ℕ) → j < m → j + 1 ≤ displacements (onward n h j)
 

@@ -1,6 +1,6 @@
 //! The forward shift of residents for an insertion, and the renumbering of residents.
 //!
-//! Both work on each representation of slots.
+//! `shift_forward` and `renumber` work on each representation of slots.
 
 ghost use Rattle.std.specs.Prelude.{◌≡◌, ℕ, ◌+◌, ◌<◌, List, length, map};
 ghost use Rattle.ijson_table.specs.private.Insertion.{IsPut, MayPut};
@@ -40,7 +40,7 @@ pub fn shift_forward<S: StoredSlot + Copy + Drop>(
     }
 }
 
-/// Renumbers the residents after the entry at index `from` was moved to index `to`.
+/// Renumbers the residents for a move of the entry at index `from` to index `to`.
 pub fn renumber<S: StoredSlot + Copy + Drop>(slots: &mut [S], from: usize, to: usize)
     requires from { from < length slots.old }
     requires to { to < length slots.old }

@@ -238,7 +238,7 @@ impl Slots {
         }
     }
 
-    /// Renumbers the residents after the entry at index `from` was moved to index `to`.
+    /// Renumbers the residents for a move of the entry at index `from` to index `to`.
     ///
     /// The representation of the slots is tested once.
     pub fn renumber(&mut self, from: usize, to: usize)

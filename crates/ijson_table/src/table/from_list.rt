@@ -28,9 +28,9 @@ impl<V: Drop, H: KeyHash> Table<V, H> {
     /// Creates a store by inserting `pairs` in order.
     ///
     /// A duplicate key keeps its first index and has its last value. The store reuses the
-    /// allocation of `pairs`: the length is the capacity, and spare capacity is freed. Pairs before
-    /// the first duplicate key do not move. Later pairs move down to the indices of their keys. An
-    /// empty list does not allocate.
+    /// allocation of `pairs`: the length of `pairs` is the capacity, and spare capacity is freed.
+    /// Pairs before the first duplicate key do not move. Later pairs move down to the indices of
+    /// their keys. An empty list does not allocate.
     ///
     /// # Errors
     ///

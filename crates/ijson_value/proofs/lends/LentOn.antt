@@ -63,8 +63,8 @@ module _ {M : Type 1} {𝓤 : Ura M} (𝓛 : Logic 𝓤) (R : RattleType) where
       fpack ! ((s : (R.Denot → R.Denot) × R.Denot) × ((w : R.Denot) → P w (s.0 w)) × P₀ s.1) (λ s. follows_if R R γ (some γ) s.0.0 s.0.1)
       (((λ w. w), v), met, met₀) $ done !
 
-  -- A lender that lends nothing and has the final value `v` follows the part `none` by any relation
-  -- `P₀` that `v` satisfies.
+  -- A lender that lends nothing and has the final value `v` follows the part `none` by `P` and
+  -- `P₀`, if `v` satisfies `P₀` and `P` relates each `w` to `F w`.
   pub none_so : (T : RattleType) (γ : GName) (v : R.Denot) (F : T.Denot → R.Denot) (P : T.Denot → R.Denot → Type 0) (P₀ : R.Denot → Type 0)
       → ((w : T.Denot) → P w (F w)) → P₀ v → ent 𝓤 (sem 𝓛 (fres γ (R.coded.code v))) (sem 𝓛 (follows_so R T γ none P P₀))
   unfolding such_by follows_by

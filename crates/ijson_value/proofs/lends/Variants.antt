@@ -57,7 +57,8 @@ module _ {M : Type 1} {𝓤 : Ura M} {𝓛 : Logic 𝓤} {K : Type 0} {Γ : List
       fsplit t $ move t (1 ∷ []) $ drop t $
       k vss.0 (e ∙ ap (λ (us : List Val). live n (of_list us) ∷ []) e')))))
 
-  -- The ownership of an `Option` can be split in the same way, for any content type `R`.
+  -- The ownership of an `Option` can be split into its tag and the ownership of its content, for
+  -- any content type `R`.
   module _ (R : RattleType) where
     -- The ownership of `None` implies that its machine value is the tag 0.
     pub none_out : (vs : List Val) → (vs ≡ live 0 (of_list []) ∷ [] → Seq K 𝓛 Γ G) → Seq K 𝓛 (‵ ((the_row R).own_val None vs) ∷ Γ) G

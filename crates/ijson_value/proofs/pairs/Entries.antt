@@ -122,7 +122,7 @@ pub record IsAbsent (old : Store WellFormed) (key : List ℕ) : Type 0 where
   pub pushed : {pairs : List (List ℕ × WellFormed)} {copy : List ℕ} → pairs ≡ old.pairs → copy ≡ key → (w : WellFormed)
       → pairs ++ (copy, w) ∷ [] ≡ put old.pairs key w
 
--- If `key` lacks an index, then `IsAbsent` holds for `key`.
+-- If `key` is missing, then `IsAbsent` holds for `key`.
 pub is_absent : (old : Store WellFormed) (key : List ℕ) → at old.pairs key ≡ None → IsAbsent old key
 is_absent old key missing = record {
   gone = missing;

@@ -33,8 +33,8 @@ module _ {V : Type 0} where
       let past : bytes_eq key pair.0 ≡ false = grind (arith, same_key key pair.0, lacks.0) in
       grind (arith, past, lookup-lacks pairs key lacks.1)
 
-  -- If `more` lacks the key of `pair`, then looking up `k` in `more` and else in `pairs` with
-  -- `pair` put equals looking up `k` in `pair ∷ more` and else in `pairs`.
+  -- If `more` lacks the key of `pair`, then looking up `k` first in `more`, then in `pairs` after
+  -- `pair` is put, equals looking up `k` first in `pair ∷ more`, then in `pairs`.
   put_first : (pairs more : List (List ℕ × V)) (pair : List ℕ × V) (k : List ℕ) → Lacks pair.0 (keys_of more)
       → option_or (lookup k more) (lookup k (put pairs pair.0 pair.1)) ≡ option_or (lookup k (pair ∷ more)) (lookup k pairs)
   put_first pairs more pair k lacks =

@@ -47,8 +47,8 @@ pub put-members : (ps : List (List ℕ × WellFormed)) (key : List ℕ) (w : Wel
 put-members ps key w =
     members_list-pairs (put ps key w) ∙ put-trees ps key w ∙ ap (λ ms. put ms key w.tree) (sym (members_list-pairs ps))
 
--- If replacing values by their trees turns a removal by `out` into a removal by `out_member` at
--- each index, then it does so at the index of each key.
+-- If `out`, on entries, and `out_member`, on entries with the trees of their values, agree at each
+-- index, then they agree for each key.
 module _ (out : List (List ℕ × WellFormed) → ℕ → List (List ℕ × WellFormed))
     (out_member : List (List ℕ × Tree) → ℕ → List (List ℕ × Tree)) (ps : List (List ℕ × WellFormed))
     (each : (i : ℕ) → map pair_tree (out ps i) ≡ out_member (map pair_tree ps) i) where
@@ -61,7 +61,7 @@ module _ (out : List (List ℕ × WellFormed) → ℕ → List (List ℕ × Well
   out_key-trees key = out_at-trees (at ps key) ∙ ap (λ found. out_at out_member found (map pair_tree ps)) (sym (at-trees ps key))
 
 -- Removing a key from an object by `shift_out_key` removes the key from the members of the object's
--- tree in the same way.
+-- tree by `shift_out_key`.
 pub shift_out-members : (ps : List (List ℕ × WellFormed)) (key : List ℕ)
     → members_list (pair_trees (shift_out_key key ps)) ≡ shift_out_key key (members_list (pair_trees ps))
 shift_out-members ps key = members_list-pairs (shift_out_key key ps) ∙ out_key-trees shift_out shift_out ps (map-remove pair_tree ps) key

@@ -31,7 +31,7 @@ with_proof t d = record { tree = t; well_formed = d }
 equal_turned : (t u : Tree) → IsWellFormed t → IsWellFormed u → same t u ≡ same u t
 equal_turned t u d e = (partial_equivalence (λ v. v)).symm (with_proof t d) (with_proof u e)
 
--- If `t` and `u` are the same, then `same` has the same result for both and any third tree.
+-- If `t` and `u` are the same, then `same t v` equals `same u v` for any third tree `v`.
 equal_alike : (t u v : Tree) → IsWellFormed t → IsWellFormed u → IsWellFormed v → same t u ≡ true
     → same t v ≡ same u v
 equal_alike t u v d e f =
@@ -186,7 +186,7 @@ not_less false e = apart None e
 -- `t`, `u` and `v` are the first elements of three arrays. `p`, `q` and `s` are the orders of the
 -- remaining elements of the first and second array, the second and third, and the first and third.
 module _ (t u v : Tree) (d : IsWellFormed t) (e : IsWellFormed u) (f : IsWellFormed v) (p q s : Option Ordering) where
-  -- If `u` and `v` are `Equal`, then `t` has the same order to both.
+  -- If `u` and `v` are `Equal`, then `t` has the same order to `u` and to `v`.
   alike_right : tree_cmp u v ≡ Some Equal → tree_cmp t v ≡ tree_cmp t u
   alike_right b =
       cmp_turned t v d f ∙ ap (option_map ordering_reverse) (sym (cmp_alike u v t e f d ((cmp_equal u v).1 b)))

@@ -1,5 +1,5 @@
--- Putting the value that a key already has changes nothing. Therefore a caller that inserts only
--- into a vacant `Entry` can put the existing value, or else its own value.
+-- Putting the value that a key already has changes nothing. Inserting only into a vacant `Entry`
+-- therefore has the effect of putting the existing value, or else the new value.
 use Rattle.std.specs.Prelude.{◌≡◌, ℕ, zero, suc, List, [], ◌∷◌, Option, Some, None, get_or, slice_get, IsSome}
 use Rattle.std.specs.Option.{unwrap_or}
 use Rattle.std.proofs.Common.{refl, sym, ap, ◌∙◌}

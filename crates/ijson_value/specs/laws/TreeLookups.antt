@@ -63,7 +63,7 @@ map-or f None p = refl
 map-or f (Some x) p = refl
 
 -- If a lookup in `after` prefers the entries `over` to the entries `base`, then the lookup in the
--- tree of `after` prefers their trees in the same way.
+-- tree of `after` prefers the tree of `over` to the tree of `base`.
 pub at_key-over : (over base after : List (List ℕ × WellFormed)) (key : List ℕ)
     → lookup key after ≡ option_or (lookup key over) (lookup key base)
     → tree_at (object_tree after) (by_key key)

@@ -123,7 +123,7 @@ impl IObject {
 
     /// Moves the entry at index `from` to index `to`.
     ///
-    /// The entries between the two indices shift by one.
+    /// The entries between `from` and `to` shift by one index.
     fn move_index(&mut self, from: usize, to: usize)
         requires from { from < length self.old.pairs }
         requires to { to < length self.old.pairs }

@@ -25,7 +25,7 @@ pub enum RefusedReplacement {
 }
 
 impl IObject {
-    /// Inserts an entry at `index` and returns the old value of its key.
+    /// Inserts an entry at `index` and returns the old value of its key, if any.
     ///
     /// All entries from `index` on shift up. An existing key is moved to `index`, or to the end if
     /// `index` is the length. `index` must be at most `len`.
@@ -86,7 +86,7 @@ impl IObject {
     ///
     /// # Cost
     ///
-    /// Two lookups, and a scan of the collision clusters of both keys.
+    /// Two lookups, and a scan of the collision clusters of `old` and `new`.
     pub fn replace_key(&mut self, old: &str, new: IString) -> Result<IString, RefusedReplacement>
         ensures replaces { ReplacesKey self.old.pairs old.now new result self.new.pairs }
         ensures capacity { self.new.capacity ≡ self.old.capacity }

@@ -153,7 +153,7 @@ impl IObject {
         }
     }
 
-    /// Returns the index of `key`, without changing the object.
+    /// Returns the index of `key`, or `None` if the key is missing, without changing the object.
     fn position_of<I: ObjectIndex>(&mut self, key: I) -> Option<usize>
         ensures same { self.new ≡ self.old }
         ensures position { result ≡ at self.old.pairs (I.Sealed.key key) }

@@ -24,9 +24,9 @@ use std::mem::{self, size_of};
 /// # Memory
 ///
 /// An object takes 16 bytes, including a pointer to its table, which exists after the first
-/// allocation. The table takes 40 bytes for each entry of its capacity. The slots of the hash index
-/// take 20 more bytes for each entry, but only 4 at a capacity of at most 127, and 0 at a capacity
-/// of at most 8.
+/// allocation. The table takes 40 bytes for each entry of its capacity. For each entry, the slots
+/// of the hash index take nothing more up to a capacity of 8, at most 4 bytes up to a capacity of
+/// 127, and at most 20 bytes above.
 #[cycle(value)]
 #[derive(Drop)]
 pub struct IObject {
@@ -59,8 +59,8 @@ impl Model for IObject {
 
 /// The entry that could not be inserted, and the reason why capacity could not be reserved.
 ///
-/// The entry did not change the object. After `extend` and `overlay`, the object has the entries
-/// before it.
+/// After a failed `extend` or `overlay`, the object has the entries before the returned entry.
+/// After any other failed call, the object is unchanged.
 pub type RefusedPair = ijson_table::RefusedPair<IValue>;
 
 impl IObject {
@@ -236,7 +236,7 @@ impl IObject {
         }
     }
 
-    /// Inserts an entry and returns the old value of its key.
+    /// Inserts an entry and returns the old value of its key, if any.
     ///
     /// An existing key keeps its index, and nothing is allocated. A missing key is appended, after
     /// reserving capacity if needed.
@@ -282,7 +282,7 @@ impl IObject {
     }
 }
 
-/// Objects are equal if they have the same length and each key has equal values in both.
+/// Objects are equal if they have the same length and each key has equal values in both objects.
 ///
 /// Does not allocate.
 impl PartialEq for IObject {

@@ -62,7 +62,7 @@ impl From<IObject> for IValue {
     }
 }
 
-/// Converts to a number without a decimal point. Does not allocate.
+/// Converts an integer to a number without a decimal point. Does not allocate.
 impl From<i8> for IValue {
     ghost from_gives = { λ value v. IsIntegerTree v.tree value };
 
@@ -71,7 +71,7 @@ impl From<i8> for IValue {
     }
 }
 
-/// Converts to a number without a decimal point. Does not allocate.
+/// Converts an integer to a number without a decimal point. Does not allocate.
 impl From<i16> for IValue {
     ghost from_gives = { λ value v. IsIntegerTree v.tree value };
 
@@ -80,7 +80,7 @@ impl From<i16> for IValue {
     }
 }
 
-/// Converts to a number without a decimal point. Does not allocate.
+/// Converts an integer to a number without a decimal point. Does not allocate.
 impl From<i32> for IValue {
     ghost from_gives = { λ value v. IsIntegerTree v.tree value };
 
@@ -89,7 +89,7 @@ impl From<i32> for IValue {
     }
 }
 
-/// Converts to a number without a decimal point. Does not allocate.
+/// Converts an integer to a number without a decimal point. Does not allocate.
 impl From<i64> for IValue {
     ghost from_gives = { λ value v. IsIntegerTree v.tree value };
 
@@ -98,7 +98,7 @@ impl From<i64> for IValue {
     }
 }
 
-/// Converts to a number without a decimal point. Does not allocate.
+/// Converts an integer to a number without a decimal point. Does not allocate.
 impl From<isize> for IValue {
     ghost from_gives = { λ value v. IsIntegerTree v.tree value };
 
@@ -107,7 +107,7 @@ impl From<isize> for IValue {
     }
 }
 
-/// Converts to a number without a decimal point. Does not allocate.
+/// Converts an integer to a number without a decimal point. Does not allocate.
 impl From<u8> for IValue {
     ghost from_gives = { λ value v. IsIntegerTree v.tree (pos value) };
 
@@ -116,7 +116,7 @@ impl From<u8> for IValue {
     }
 }
 
-/// Converts to a number without a decimal point. Does not allocate.
+/// Converts an integer to a number without a decimal point. Does not allocate.
 impl From<u16> for IValue {
     ghost from_gives = { λ value v. IsIntegerTree v.tree (pos value) };
 
@@ -125,7 +125,7 @@ impl From<u16> for IValue {
     }
 }
 
-/// Converts to a number without a decimal point. Does not allocate.
+/// Converts an integer to a number without a decimal point. Does not allocate.
 impl From<u32> for IValue {
     ghost from_gives = { λ value v. IsIntegerTree v.tree (pos value) };
 
@@ -134,7 +134,7 @@ impl From<u32> for IValue {
     }
 }
 
-/// Converts to a number without a decimal point. Does not allocate.
+/// Converts an integer to a number without a decimal point. Does not allocate.
 impl From<u64> for IValue {
     ghost from_gives = { λ value v. IsIntegerTree v.tree (pos value) };
 
@@ -143,7 +143,7 @@ impl From<u64> for IValue {
     }
 }
 
-/// Converts to a number without a decimal point. Does not allocate.
+/// Converts an integer to a number without a decimal point. Does not allocate.
 impl From<usize> for IValue {
     ghost from_gives = { λ value v. IsIntegerTree v.tree (pos value) };
 

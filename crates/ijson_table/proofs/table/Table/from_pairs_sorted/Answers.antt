@@ -11,7 +11,7 @@ use Rattle.ijson_table.proofs.table.Table.from_pairs_sorted.Goals.{After-deref, 
 fewer : (g : Over) (c : After-deref g) → length c.deref.result.now ≤ vec_capacity c.args.pairs
 fewer g c = omega (arith, ap length c.deref.ensures.value, c.in-Ok.ensures.room, c.in-Ok.pairs.ok)
 
--- The inspections of both sorts are within the bound for the capacity.
+-- The number of inspections of both sorts is within the bound for the capacity.
 both : (g : Over) (c : After-fill_sorted g) → length c.deref.result.now ≤ vec_capacity c.args.pairs → (k : ℕ) → vec_capacity c.args.pairs ≤ 2 ^ k
     → c.fill_sorted.new.looks ≤ c.args.looks.now + vec_capacity c.args.pairs * (1 + 2 * k)
 both g c second k fits =

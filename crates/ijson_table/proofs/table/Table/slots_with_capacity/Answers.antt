@@ -5,7 +5,7 @@ use Rattle.ijson_table.proofs.pairs.Shown.{pairs_shown}
 use Rattle.ijson_table.proofs.table.Table.slots_with_capacity.Goals.{After-fill_sorted}
 use Rattle.ijson_table.proofs.table.Table.slots_with_capacity.Goals as goal
 
--- The inspections of insertion and of sorting are within the bound on building a table.
+-- The number of inspections of insertion and sorting is within the bound for building a table.
 few : (g : _) (c : After-fill_sorted g) (k : ℕ) → c.args.capacity ≤ 2 ^ k
     → c.add_new_keys-placed.new.steps ≤ c.args.capacity * looks_a_pair
     → c.fill_sorted.new.looks - c.args.looks.now ≤ c.args.capacity * (looks_a_pair + 2 * k)
