@@ -1,6 +1,6 @@
 //! Tests in addition to the contracts, with a folder for each module of the library.
 //!
-//! Tests call `drop` on their values, since that is one step of a proof. For a value that is
+//! Tests call `drop` on their values, since such a call is one step of a proof. For a value that is
 //! dropped at the end of a scope, the proof has a case for each kind of value.
 
 /// Returns the `Ok` value of a call, which is repeated once if an allocation fails.

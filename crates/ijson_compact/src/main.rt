@@ -35,7 +35,8 @@ fn compact_stream<R: Source, W: Write, S: BuildHasher + Drop>(
     // The complete line was written, and the source was read to its end.
     ensures done { OnOk result (WritesLine (R.left input.old) (R.left input.new)
         (W.contents output.old.inner) (W.contents output.new.inner)) }
-    // If the result is `Write`, a beginning of the line was written; for any other error, nothing.
+    // If the result is `Write`, a proper prefix of the line was written. After any other error,
+    // nothing was written.
     ensures beginning { result ≡ Err errors.Write
         → BeginsLine (R.left input.old) (W.contents output.old.inner) (W.contents output.new.inner) }
     ensures nothing { IfErr result (λ error. error ≢ errors.Write

@@ -1,5 +1,5 @@
--- A value after a mutable borrow at a pointer ended: the last value written is at the pointer, and
--- everything else is unchanged.
+-- The effect of a mutable borrow at a pointer: after the borrow ends, the last value written is at
+-- the pointer, and everything else is unchanged.
 use Rattle.std.specs.Prelude.{◌≡◌, ℕ, List, Option, Result, Ok, Err, OnSome, ⊤}
 use Rattle.std.specs.Borrow.{follows_so, GName, LendsSo, MutBor, Fml, RattleType}
 use Rattle.std.specs.Option.{ghost_name_of}

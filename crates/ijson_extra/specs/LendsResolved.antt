@@ -1,5 +1,5 @@
--- A value after a mutable borrow at a pointer ended: the last value written is at the pointer, and
--- everything else is unchanged.
+-- The effect of a mutable borrow at a pointer: after the borrow ends, the last value written is at
+-- the pointer, and everything else is unchanged.
 use Rattle.std.specs.Prelude.{◌≡◌, ℕ, List, Option, Some, None, Result}
 use Rattle.std.specs.Borrow.{LendsSoOk, MutBor, Fml}
 use Rattle.ijson_value.specs.NodeValue.{node_value}

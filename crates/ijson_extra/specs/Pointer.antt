@@ -32,7 +32,7 @@ abbrev mutual
         | false ↦ option_map (λ token. b ∷ token) (meant text)
       ]
 
-  -- The meaning of a token after a `~`.
+  -- The meaning of a token that begins with `~`, from the text after the `~`.
   pub escape_meant : List ℕ → Option (List ℕ)
   escape_meant [] = None
   escape_meant (b ∷ text) =
@@ -104,7 +104,7 @@ resolved t pointer = option_map (followed t) (tokens_of pointer)
 
 -- ---- The tree with the value at a pointer replaced
 
--- The tree with the value that the tokens lead to replaced by `u`.
+-- Replaces the value at the path of the tokens by `u`, and returns the tree.
 abbrev pub followed_with : Option Tree → List (List ℕ) → Tree → Tree
 followed_with t [] u = u
 followed_with None (token ∷ more) u = u

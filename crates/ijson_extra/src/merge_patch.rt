@@ -62,7 +62,8 @@ pub fn merge_patch(alloc: Global, target: IValue, patch: &IValue) -> Result<IVal
     let Some(changes) = patch.as_object() else {
         return patch.clone();
     };
-    // Inlining these functions, which do not recurse, would increase the stack frame of each level.
+    // `object_of` is not inlined, because that would increase the stack frame of each level of the
+    // recursion.
     let object = object_of(alloc, target);
     if changes.len() <= FEW {
         changed_in_turn(alloc, object, changes)
@@ -123,7 +124,8 @@ fn place_of(object: &mut IObject, key: IString) -> Result<&mut IValue, RefusedPa
     object.index_or_insert(key)
 }
 
-/// Returns `object` changed by the patch `changes`, with one table of the keys of both.
+/// Returns `object` changed by the patch `changes`, with one table of the keys of `object` and
+/// `changes`.
 #[cycle(merge)]
 fn changed_at_once(alloc: Global, object: IObject, changes: &IObject) -> Result<IValue, AllocError>
     ensures { IfOk result (λ value. value.tree ≡ merged (object_tree object.pairs) (object_tree changes.now.pairs)) }
@@ -140,7 +142,8 @@ fn changed_at_once(alloc: Global, object: IObject, changes: &IObject) -> Result<
     value_of_pairs(alloc, pairs)
 }
 
-/// Returns an object of these entries, as a value. A duplicate key replaces the earlier value.
+/// Returns an object of the entries `pairs`, as a value. A duplicate key replaces the earlier
+/// value.
 #[inline(never)]
 fn value_of_pairs(alloc: Global, pairs: Vec<(IString, IValue)>) -> Result<IValue, AllocError>
     ensures { IfOk result (λ value. value.tree ≡ object_tree (put_each [] pairs.items)) }

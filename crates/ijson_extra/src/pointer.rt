@@ -102,8 +102,8 @@ pub trait Pointer {
 
     /// Returns the value that `pointer` refers to, or `None` if it does not exist.
     ///
-    /// Also returns `None` if `pointer` is not a JSON Pointer. To distinguish the two, call
-    /// `resolve`.
+    /// Also returns `None` if `pointer` is not a JSON Pointer. To distinguish an invalid pointer
+    /// from a missing value, call `resolve`.
     ///
     /// ```
     /// let port = value.pointer("/servers/0/port"); // Some of 80 in {"servers":[{"port":80}]}

@@ -4,7 +4,8 @@ use Rattle.ijson_json.specs.declared.fault.JsonError.TheVariants as json
 use Rattle.ijson_json.specs.declared.compacting.CompactError.{CompactError}
 use Rattle.ijson_json.specs.declared.compacting.CompactError.TheVariants as errors
 
--- Wraps the reader's error in `Json`, but converts `Memory` to `Memory`.
+-- Wraps the reader's error in `Json`, except `Memory`, which becomes the `Memory` of
+-- `CompactError`.
 abbrev pub compact_error_of : JsonError → CompactError
 compact_error_of (json.Syntax at) = errors.Json (json.Syntax at)
 compact_error_of (json.TooDeep at) = errors.Json (json.TooDeep at)

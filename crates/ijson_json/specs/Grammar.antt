@@ -73,8 +73,8 @@ abbrev mutual
       (λ others. IsMembers (member l u more) others) text
 
 -- Holds if `text` is JSON that reads as `tree`. `deepest` is the maximum number of open containers,
--- and `ranged` is whether each number is within the limit. Both include members that a duplicate
--- key replaces.
+-- and `ranged` is whether each number is within the limit. `deepest` and `ranged` include members
+-- that a duplicate key replaces.
 pub record Reads (text : List ℕ) (tree : Tree) (deepest : ℕ) (ranged : Bool) : Type 0 where
   pub written : Tree
   pub spelled : Spaced (λ value. IsValue written value) text

@@ -40,7 +40,8 @@ IsValuePlace opened before = Inside IsSpace opened before
 abbrev pub IsOpenString : List ℕ → Type 0
 IsOpenString text = (gap body s : List ℕ) × IsSpace gap × StringBody body s × (text ≡ gap ++ 34 ∷ body)
 
--- Holds if `text` is the beginning of an object that ends in a key, after complete characters.
+-- Holds if `text` is the beginning of an object up to a position inside a key: complete members,
+-- then the opening quote and complete characters of the key.
 abbrev pub IsOpenKey : List ℕ → Type 0
 IsOpenKey text =
     (gap members key : List ℕ) × IsSpace gap × EachWithComma IsMember members × IsOpenString key

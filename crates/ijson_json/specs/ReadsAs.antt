@@ -12,8 +12,8 @@ abbrev pub ReadsAs : {X : Type 0} → List ℕ → (Tree → X → Type 0) → R
 ReadsAs text Gives (Ok x) = (tree : Tree) × Accepted text tree × Gives tree x
 ReadsAs text Gives (Err e) = Refuses text e
 
--- Holds if an accepted `text` has a result that `Gives` relates to its tree, or the error `Memory`.
--- Any error satisfies `Refuses`.
+-- Holds if the `result` for an accepted `text` is a value that `Gives` relates to its tree, or the
+-- error `Memory`. If `result` is an error, it satisfies `Refuses`, also if `text` is rejected.
 pub record IsTotal {X : Type 0} (text : List ℕ) (Gives : Tree → X → Type 0) (result : Result X JsonError) : Type 0 where
   pub read : (tree : Tree) → Accepted text tree → MatchResult result (Gives tree) (λ e. e ≡ Memory)
   pub refused : IfErr result (λ e. Refuses text e)

@@ -111,8 +111,8 @@ pub fn compact<R: Source, W: Sink, S: BuildHasher>(
     // On success, the source is at its end and the sink received the whole line.
     ensures done { OnOk result
         (WritesLine (R.left input.old) (R.left input.new) (W.got output.old) (W.got output.new)) }
-    // If a write fails, the sink received a beginning of the line. After any other error, the sink
-    // is unchanged.
+    // If a write fails, the sink received a proper prefix of the line. After any other error, the
+    // sink is unchanged.
     ensures beginning { result ≡ Err Write
         → BeginsLine (R.left input.old) (W.got output.old) (W.got output.new) }
     ensures nothing { IfErr result (λ error.

@@ -29,7 +29,7 @@ pub use write::{INITIAL_CAPACITY, push_key, push_quoted, push_separator, to_json
 /// - `one_tree`: a text has at most one tree.
 /// - `printed`: the text of a well-formed tree within the nesting limit is accepted as that tree.
 /// - `no_error`: an accepted text has no error.
-/// - `one_error`: a text has at most one error, which `from_json` returns.
+/// - `one_error`: a text has at most one error. `from_json` returns this error or `Memory`.
 /// - `allowed`: the error of a text satisfies `Refuses`.
 ///
 /// The function does nothing. A proof calls it to use the laws.

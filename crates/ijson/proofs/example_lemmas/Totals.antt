@@ -26,7 +26,8 @@ pub values_sum : (ps : List (List ℕ × WellFormed)) → ◌≡◌ {A = ℕ →
 values_sum [] = refl
 values_sum (p ∷ ps) = ap (λ (Rest : ℕ → Type 0). λ (sum : ℕ). (x y : ℕ) × SumsTo p.1.tree x × Rest y × (sum ≡ x + y)) (values_sum ps)
 
--- Holds if the sum of the whole is `so_far` plus the sum of the values `left`.
+-- Holds if the sum of all values is `so_far` plus the sum of the remaining values `left`, whose
+-- depth is at most `deepest`.
 pub record IsLeft (Whole : ℕ → Type 0) (deepest : ℕ) (left : List WellFormed) (so_far : ℕ) : Type 0 where
   pub parts : (n : ℕ) → Whole n → (m : ℕ) × EachSumsTo (item_trees left) m × (n ≡ so_far + m)
   pub whole : (m : ℕ) → EachSumsTo (item_trees left) m → Whole (so_far + m)

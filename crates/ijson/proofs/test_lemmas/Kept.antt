@@ -1,5 +1,5 @@
--- Lemmas about an object of two entries: after both were put, after the second value was written,
--- and after `retain` kept only the second entry.
+-- Lemmas about an object of two entries: after both entries were put, after the second value was
+-- written, and after `retain` kept only the second entry.
 use Rattle.std.proofs.Common.{◌≡◌, ◌≢◌, ◌↔◌, ℕ, List, [], ◌∷◌, length, get_or, Bool, true, false, Option, Some, None, MutBor, refl, sym, ap}
 use Rattle.std.proofs.Common.{subst, ◌∙◌, arith}
 use Rattle.std.specs.Option.{option_copied_mut, unwrap_or}

@@ -9,7 +9,8 @@ abbrev pub StandsAt : List WellFormed → Tree → ℕ → Type 0
 StandsAt documents t position =
     (found : WellFormed) × (slice_get documents position ≡ Some found) × Same t found.tree
 
--- Holds if an equal document exists and the list is unchanged, or if `document` is appended.
+-- Holds if an equal document exists and the list is unchanged, or if no equal document exists and
+-- `document` is appended.
 abbrev pub Stores : List WellFormed → WellFormed → List WellFormed → Type 0
 Stores old document new =
     (((position : ℕ) × StandsAt old document.tree position) × (new ≡ old))

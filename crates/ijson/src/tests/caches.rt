@@ -1,4 +1,4 @@
-//! Caches and interned strings.
+//! Functions that create caches and interned strings.
 
 use crate::string::{IString, StringCache};
 use std::alloc::{AllocError, Global};

@@ -39,8 +39,8 @@ fn used_cache(rt: &impl Abort, alloc: Global) -> Cache {
     cache
 }
 
-/// The strings of more than 7 bytes in these tests, which are interned, each as it is written in
-/// JSON text.
+/// The strings of more than 7 bytes in these tests, each with its spelling in JSON text. The
+/// conversions intern these strings.
 #[rattlefmt::skip]
 static LONG: [(&str, &str); 5] = [
     ("longlong", "longlong"), ("eight888", "eight888"), ("a text of many bytes", "a text of many bytes"),
@@ -201,7 +201,7 @@ fn said<T: FromIValue + Drop>(rt: &impl Abort, alloc: Global, text: &str) -> Con
     said
 }
 
-/// Asserts the text after the value of `text` is converted to a `T` and back, or the error.
+/// Converts the value of `text` to a `T` and back, and asserts the resulting text or the error.
 fn is_read<T: FromIValue + ToIValue + Drop>(
     rt: &impl Abort,
     alloc: Global,

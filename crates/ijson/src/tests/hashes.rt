@@ -1,4 +1,4 @@
-//! Hashes of values, and the words that they feed to a hasher.
+//! Assertions about the hashes of values, and about the words that values feed a hasher.
 
 use std::alloc::Global;
 use std::cell::Cell;

@@ -50,7 +50,7 @@ enum Call {
     RemoveEntry,
     ShiftRemove,
     ShiftRemoveEntry,
-    /// Replaces the key of this letter, unless that key is missing or the new key exists.
+    /// Replaces the key of this letter, unless the key is missing or the new key exists.
     ReplaceKey(u8),
     /// Writes the value of an existing key, and returns the old value.
     GetMut,
@@ -69,7 +69,7 @@ enum Call {
     /// Writes the value of an existing or new key, and returns the old value, or null if the key is
     /// new.
     ///
-    /// `IndexContent` and `IndexValue` do this through an `IValue`, by two ways to call the method.
+    /// `IndexContent` and `IndexValue` call `index_or_insert` on an `IValue`, in two ways.
     IndexOrInsert,
     IndexContent,
     IndexValue,
@@ -426,9 +426,11 @@ fn entered(rt: &impl Abort, entry: Entry<'_>, row: Row, value: IValue, is_presen
     Some(letter)
 }
 
-/// Makes the call of `row` on the `Entry` of a key, or a call that cannot fail.
+/// Makes the call of `row` for the key of the entry: on its `Entry`, or on `object` if the call
+/// cannot fail.
 ///
-/// Some calls on an `Entry` copy the key if it is missing.
+/// `OrInsertWith`, `DropCopy`, `Write` and `WriteRemove` get the `Entry` from `entry_or_clone`,
+/// which clones a missing key.
 fn by_key(rt: &impl Abort, object: &mut IObject, row: Row, (key, value): Pair) -> Answer {
     let is_present = object.contains_key(&key);
     let reply = match row.1 {

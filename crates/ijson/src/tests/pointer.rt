@@ -174,7 +174,7 @@ const NESTED: &str = r#"{"a":[{"m~/n":[1]}]}"#;
 /// Pointers to the containers of `NESTED`, the outermost first.
 static CONTAINERS: [&str; 4] = ["", "/a", "/a/0", "/a/0/m~0~1n"];
 
-/// Pointers that pass through these containers. The last four refer to no value.
+/// Pointers that pass through the containers of `NESTED`. The last four refer to no value.
 #[rattlefmt::skip]
 static PASSING: [&str; 8] = [
     "", "/a", "/a/0/m~0~1n", "/a/0/m~0~1n/0", "/a/0/m~0~1n/1", "/a/0/m~1n", "/a/0/m~0~1n/0/d", "/a/~",

@@ -1,4 +1,4 @@
-//! What values and errors show.
+//! Assertions about debug output and error messages.
 
 use std::alloc::{AllocError, Global};
 use std::error::Error;

@@ -1,4 +1,5 @@
-//! What the tests of several modules share: places, integers, and counted allocations.
+//! Functions that the tests of several modules share: to set places, convert integers and count
+//! allocations.
 
 use std::alloc::{AllocError, Global};
 

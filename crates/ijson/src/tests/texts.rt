@@ -1,4 +1,4 @@
-//! Values from JSON text, and their JSON text.
+//! Functions that parse JSON text, and that assert the JSON text of a value.
 
 use crate::json::{JsonError, from_json, to_json};
 use crate::tests::caches::empty_cache;

@@ -1,4 +1,4 @@
-//! The program over a reader and a writer whose behavior a table gives.
+//! Tests of the program with readers and writers whose behavior is in a table.
 
 ghost use Rattle.std.specs.Hash.FoldHasher as folding;
 
@@ -9,7 +9,8 @@ use std::hash::{BuildHasher, FoldHasher};
 use std::io;
 use std::io::{ErrorKind, Read, Write};
 
-/// A reader of these pieces, one a call. It fails at a missing piece, and after the last.
+/// A reader that yields one piece per call. A call fails at a piece that is `None`, and after the
+/// last piece.
 #[derive(Drop)]
 struct Pieces<'a> {
     pieces: &'a [Option<&'a str>],
@@ -29,9 +30,9 @@ impl Read for Pieces<'_> {
     }
 }
 
-/// A writer that accepts everything, but fails at one call, and counts the calls.
+/// A writer that accepts all bytes and counts its calls. The call with the index `fails_at` fails.
 ///
-/// A flush is a call too.
+/// Each write and each flush is a call.
 #[derive(Drop)]
 struct Counted<'a> {
     calls: &'a Cell<u32>,
@@ -39,7 +40,7 @@ struct Counted<'a> {
 }
 
 impl Counted<'_> {
-    /// Counts a call, and fails if it is the one.
+    /// Counts a call, and fails if the call has the index `fails_at`.
     fn call(&self) -> io::Result<()> {
         let call = self.calls.get();
         self.calls.set(call.saturating_add(1));
@@ -61,7 +62,7 @@ impl Write for Counted<'_> {
     }
 }
 
-/// Creates hashers, and counts them.
+/// Creates hashers, and counts the hashers created.
 #[derive(Drop)]
 struct CountedState<'a> {
     made: &'a Cell<u32>,
@@ -78,8 +79,8 @@ impl BuildHasher for CountedState<'_> {
     }
 }
 
-/// Runs: the pieces that the reader yields, whether the given hasher is an error, the index of the
-/// writer's call that fails (2 if none does), the result, and the number of calls of the writer.
+/// Runs: the pieces of the reader, whether the hasher is an error, the index of the writer's call
+/// that fails (2 if no call fails), the result, and the number of the writer's calls.
 ///
 /// Writing and flushing a text takes two calls. The reader must not be called after its end or an
 /// error, and the writer must not be called after it failed. Every text is a number, since the
@@ -141,8 +142,11 @@ fn streams_are_called_as_often_as_they_must(rt: HostRuntime) {
     }
 }
 
-/// A string of more than 7 bytes is hashed once, by the hasher given. The program does not free its value and its cache, so the gate does
-/// not look at the memory that this test leaves.
+/// Checks that each string of more than 7 bytes is hashed once, by the hasher passed to the
+/// program.
+///
+/// The program does not free its value and its cache, so the gate ignores the memory that this test
+/// leaves.
 #[test]
 fn strings_are_hashed_by_the_hasher_given(rt: HostRuntime) {
     let (calls, made) = (Cell::new(0), Cell::new(0));

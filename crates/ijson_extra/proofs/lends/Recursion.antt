@@ -1,5 +1,5 @@
 -- A recursive function satisfies its contract if a measure of its arguments decreases in each
--- recursive call. `step_on` composes what two nested lenders follow. Assumes `Logic`.
+-- recursive call. `step_on` composes the relations of two nested lenders. Assumes `Logic`.
 use Rattle.ijson_value.proofs.lends.Steps.{[], ◌∷◌, ◌$◌, ◌∵◌, !, qed, done}
 use Prim.Native.Nat.{ℕ, ◌<◌}
 use mathlib.Core.Option.{Option, some}

@@ -80,7 +80,7 @@ fewer [] n fits = omega arith
 fewer (old ∷ olds) n fits = omega arith
 
 -- Adding a key with its change to the keys has the same effect as applying the change to the
--- members made from them.
+-- members made from these keys.
 made-put : (ks : Keys) (olds : List Tree) (key : List ℕ) (patch : Tree) → IsDistinct (keys_of ks)
     → unwrap_or (lookup key ks) None ≡ None → length olds ≤ length ks
     → made (put ks key (Some patch)) olds ≡ applied (made ks olds) key patch

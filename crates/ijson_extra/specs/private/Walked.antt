@@ -1,5 +1,5 @@
 -- Following the tokens of a pointer as written, before their escapes are decoded. A token with an
--- invalid escape leads to nothing.
+-- invalid escape does not refer to a value.
 use Rattle.std.specs.Prelude.{◌≡◌, ℕ, List, [], Option, Some, None, OnSome, option_map, option_and_then, get_or}
 use Rattle.std.specs.Borrow.{LendsSo, MutBor, Fml}
 use Rattle.ijson_table.specs.Store.{Store}
@@ -16,7 +16,7 @@ use Rattle.ijson_value.specs.declared.value.Destructured.{Destructured}
 use Rattle.ijson_extra.specs.Pointer.{meant, written_tokens, child_at, child_with, resolved, resolved_with}
 
 -- `written_at t token` is the child of `t` that a token refers to, and `written_with t token u` is
--- `t` with `u` in its place.
+-- `t` with this child replaced by `u`.
 abbrev pub written_at : Tree → List ℕ → Option Tree
 written_at t token = option_and_then (child_at t) (meant token)
 

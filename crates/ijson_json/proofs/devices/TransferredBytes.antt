@@ -9,7 +9,7 @@ use Rattle.std.proofs.KnownBytes.{Appends-kept, Appends-trans, Consumes-trans}
 use Rattle.ijson_json.specs.WritesBeginning.{WritesBeginning}
 
 -- Reading `n` bytes after the first `i` bytes reads `i + n` bytes in total, if the second read
--- keeps the first `i` bytes.
+-- keeps the first `i` bytes of the buffer.
 pub consumes_piece : (a b c : Option (List ℕ)) (i n : ℕ) (xs ys : List ℕ) → Consumes a b (take i xs) → take i ys ≡ take i xs
     → Consumes b c (take n (drop i ys)) → Consumes a c (take (i + n) ys)
 consumes_piece a b c i n xs ys p kept q =

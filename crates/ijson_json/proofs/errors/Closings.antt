@@ -17,8 +17,9 @@ use Rattle.ijson_json.proofs.errors.ListParts.{Opening, and_first, and_last, aft
 use Rattle.ijson_json.proofs.errors.Places.{member_pair, key_opening, member_value}
 
 module _ (E : Type 0) (S : Shape E) where
-  -- Holds if the elements `pre` and the element `e` form a list. The list is no deeper than `bound`
-  -- or `e`.
+  -- Holds if the elements `pre` and the element `e` form a list. The depth of the list is at most
+  -- the maximum of `bound` and the depth of `e`. If the list is within the exponent limit, so is
+  -- `e`.
   record Filled (pre : List ℕ) (bound : ℕ) (e : E) (text : List ℕ) : Type 0 where
     first : E
     more : List E
@@ -51,7 +52,8 @@ module _ (E : Type 0) (S : Shape E) where
 
   -- Holds if the elements `pre` and the element `e` form a container.
   --
-  -- The container is no deeper than `bound`, or one level deeper than `e`.
+  -- The depth of the container is at most the maximum of `bound` and the depth of `e` plus 1. If
+  -- the container is within the exponent limit, so is `e`.
   record FilledValue (L : Listing E S) (gap pre : List ℕ) (bound : ℕ) (e : E) (text : List ℕ) : Type 0 where
     tree : Tree
     spelled : Spaced (λ value. IsValue tree value) (gap ++ L.opening ∷ ((pre ++ text) ++ S.closing ∷ []))
@@ -87,7 +89,8 @@ HasValue text bound =
 
 -- Holds if the value `u` and closing brackets extend `before` to a JSON text.
 --
--- The JSON text is no deeper than `bound`, or than `u` inside `opened` containers.
+-- The depth of the JSON text is at most the maximum of `bound` and the depth of `u` plus `opened`.
+-- If the JSON text is within the exponent limit, so is `u`.
 pub record Closed (opened : ℕ) (before : List ℕ) (bound : ℕ) (u : Tree) (text : List ℕ) : Type 0 where
   pub closers : List ℕ
   pub closing : IsClosers closers

@@ -23,7 +23,8 @@ use Rattle.ijson_json.proofs.errors.LimitErrors.{accepted_shallow, accepted_rang
 abbrev pub is_token : ℕ → Bool
 is_token b = is_number_byte b || (nat_le 97 b && nat_le b 122)
 
--- Holds if `text` is empty, or if its last byte cannot occur in a number or a word.
+-- Holds if `text` is empty, or if its last byte cannot occur in a number, `null`, `true` or
+-- `false`.
 abbrev EndsPlain : List ℕ → Type 0
 EndsPlain text = (text ≡ []) ⊎ ((front : List ℕ) × (b : ℕ) × (is_token b ≡ false) × (text ≡ front ++ b ∷ []))
 
@@ -55,7 +56,8 @@ place_ends (in_object gap key {members} {inside} sg each k i) =
     let colon : EndsPlain (((gap ++ 123 ∷ members) ++ key) ++ 58 ∷ []) = inr ((gap ++ 123 ∷ members) ++ key, 58, refl, refl) in
     subst EndsPlain (simp append_assoc) (ends_behind (((gap ++ 123 ∷ members) ++ key) ++ 58 ∷ []) inside colon (place_ends i))
 
--- A value does not begin right after a byte of a number or a word.
+-- The text before a value does not end with a byte that can occur in a number, `null`, `true` or
+-- `false`.
 pub within_token : {opened : ℕ} {before : List ℕ} (front : List ℕ) (c : ℕ) (more : List ℕ) → Inside IsSpace opened before
     → before ≡ front ++ c ∷ more → Run is_token (c ∷ more) → ⊥
 within_token front c more i e h = go (place_ends i) e

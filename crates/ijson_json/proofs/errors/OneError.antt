@@ -76,7 +76,7 @@ same_escape a b = elim (overlap a.before b.before (92 ∷ a.letters) (92 ∷ b.l
   ]
 ]
 
--- If a text is stuck after `a.before`, no JSON text begins with a longer beginning of that text.
+-- If a text is stuck after `a.before`, no JSON text begins with a longer prefix of that text.
 no_stop_before : {text : List ℕ} {at m : ℕ} (a : StuckAt text at) (b : StuckAt text m) → IsLonger a.before b.before a.rest b.rest → ⊥
 no_stop_before a b (c, mid, e, f) =
     let (more, tree, deepest, ranged, r) = b.begins in

@@ -27,7 +27,7 @@ pub run_behind : (p : ℕ → Bool) (a b : List ℕ) → Run p (a ++ b) → Run 
 run_behind p [] b h = h
 run_behind p (c ∷ a) b h = run_behind p a b h.1
 
--- If a text ends with bytes that pass the test, its last byte passes.
+-- If a text ends with bytes that pass the test `p`, its last byte passes `p`.
 pub last_passes : (p : ℕ → Bool) (a w : List ℕ) (c : ℕ) (front : List ℕ) (b : ℕ) → Run p (c ∷ w) → a ++ c ∷ w ≡ front ++ b ∷ []
     → p b ≡ true
 last_passes p a w c front b h e = elim (overlap a front (c ∷ w) (b ∷ []) e) [

@@ -34,7 +34,7 @@ pub record MayPause (seen : List ℕ) : Type 0 where
   pub accepted : Accepted (seen ++ 32 ∷ more) tree
 
 -- Holds if no JSON text continues after `seen` with the first byte of `rest`. If `rest` is empty,
--- no JSON text ends after `seen`.
+-- holds if `seen` is not a JSON text.
 abbrev pub IsStuckAfter : List ℕ → List ℕ → Type 0
 IsStuckAfter seen rest = (t : Tree) (next : List ℕ) → StartsAs rest next → Spaced (λ value. IsValue t value) (seen ++ next) → ⊥
 
@@ -51,7 +51,7 @@ pause_completed {seen} p =
       subst (λ (l : List ℕ). Spaced (λ value. IsValue r.written value) l) (sym (append_assoc seen (32 ∷ []) p.more)) r.spelled,
     )
 
--- If a text is stuck after `seen`, no JSON text begins with a longer beginning of that text.
+-- If a text is stuck after `seen`, no JSON text begins with a longer prefix of that text.
 none_longer : (seen rest : List ℕ) → IsStuckAfter seen rest → (longer more y : List ℕ) (t : Tree) → IsLonger seen longer rest y
     → Spaced (λ value. IsValue t value) (longer ++ more) → ⊥
 none_longer seen rest none longer more y t (c, mid, e, f) s =
@@ -59,12 +59,12 @@ none_longer seen rest none longer more y t (c, mid, e, f) s =
     (subst (λ (l : List ℕ). Spaced (λ value. IsValue t value) l)
     (ap (λ (l : List ℕ). l ++ more) e ∙ append_assoc seen (c ∷ mid) more) s)
 
--- If a text is stuck after `seen`, no bytes extend a longer beginning of that text to a JSON text.
+-- If a text is stuck after `seen`, no bytes extend a longer prefix of that text to a JSON text.
 pub none_completed : (seen rest : List ℕ) → IsStuckAfter seen rest → (longer y : List ℕ) → IsLonger seen longer rest y
     → IsCompleted longer → ⊥
 none_completed seen rest none longer y l (closing, t, s) = none_longer seen rest none longer closing y t l s
 
--- If a text is stuck after `seen`, no accepted text begins with a longer beginning of that text.
+-- If a text is stuck after `seen`, no accepted text begins with a longer prefix of that text.
 pub none_begins : (seen rest : List ℕ) → IsStuckAfter seen rest → (longer y : List ℕ) → IsLonger seen longer rest y
     → BeginsWithin longer → ⊥
 none_begins seen rest none longer y l (more, tree, (deepest, within, r)) = none_longer seen rest none longer more y r.written l r.spelled
@@ -84,7 +84,8 @@ take_one front c z =
     ap (λ (k : ℕ). take k (front ++ c ∷ z)) (sym one) ∙ ap (take (length (front ++ c ∷ []))) (sym (append_assoc front (c ∷ []) z))
     ∙ take-append_seam (front ++ c ∷ []) z
 
--- `number` is the longest prefix of `text` that begins a number, followed by other text `z`.
+-- `number` is the longest prefix of `text` that begins a number. The lemmas replace the text after
+-- `number` by `z`.
 --
 -- `z` begins with the same byte as the text after `number`, or does not begin with a byte of a
 -- number.
@@ -125,7 +126,8 @@ module _ (text : List ℕ) (count : ℕ) (f : IsNumberFront text count) where
           let same : c ≡ d = heads c d z w s in
           ends_there d rest e (rw same at (subst BeginsNumber (one_more c z) more))
 
-  -- If the number at the start of `text` is out of range, it is out of range before `z`.
+  -- If the number at the start of `text` is out of range, it is also out of range if `z` follows
+  -- it.
   pub unread_again : IsPastLimit (take count text) → (z : List ℕ) → Stops z ⊎ StartsAs (drop count text) z
       → IsUnread (take count text ++ z) OutOfRange
   unread_again past z h = (
@@ -229,8 +231,8 @@ module _ {text : List ℕ} (seen rest : List ℕ) (is : text ≡ seen ++ rest) (
       ]
     ]
 
-    -- If a text is stuck after `seen`, and a space may follow `seen`, its error is a syntax error
-    -- after `seen`.
+    -- If `text` is stuck after `seen`, and a space may follow `seen`, the error of `text` is a
+    -- syntax error after `seen`.
     pub stuck_error : IsErrorOf text (errors.Syntax (length seen))
     stuck_error =
         let (deepest, within, r) = pause.accepted in

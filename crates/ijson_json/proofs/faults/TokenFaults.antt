@@ -1,4 +1,4 @@
--- Lemmas about a number or a word (`null`, `true` or `false`) that stops before its end.
+-- Lemmas about a number or a literal (`null`, `true` or `false`) that stops before its end.
 use Rattle.std.proofs.Common.{◌≡◌, ℕ, ◌+◌, ◌-◌, ◌≤◌, Bool, true, List, [], ◌∷◌, ◌++◌, length, take, drop, refl, sym, ap, subst, ◌∙◌, append_assoc, append-nil, arith, inl, inr}
 use Rattle.std.specs.Prelude.{◌≢◌, ◌⊎◌, ◌==◌, not, IsTrue}
 use Rattle.std.proofs.lemmas.Bool.{cases_lt}
@@ -62,9 +62,9 @@ closers_other [] h = tt
 closers_other (b ∷ text) (inl e, h) = (rw e refl, closers_other text h)
 closers_other (b ∷ text) (inr e, h) = (rw e refl, closers_other text h)
 
--- ---- the beginning of a number or a word
+-- ---- the beginning of a number or a literal
 
--- `text` begins with `d ∷ front`, which `more` would extend to a number or a word.
+-- `text` begins with `d ∷ front`, which `more` would extend to a number or a literal.
 --
 -- `before ++ text` is stuck after `d ∷ front`.
 module _ {opened : ℕ} {before text : List ℕ} (c : ValueContext opened before text) (d : ℕ) (front rest more : List ℕ) (u : Tree)
@@ -73,7 +73,8 @@ module _ {opened : ℕ} {before text : List ℕ} (c : ValueContext opened before
   token_text : before ++ text ≡ (before ++ d ∷ front) ++ rest
   token_text = ap (λ (l : List ℕ). before ++ l) is ∙ sym (append_assoc before (d ∷ front) rest)
 
-  -- A prefix of `before ++ text` is a prefix of `before ++ d ∷ front`, or longer.
+  -- A prefix of `before ++ text` is a prefix of `before ++ d ∷ front`, or longer than
+  -- `before ++ d ∷ front`.
   part : (longer y : List ℕ) → longer ++ y ≡ before ++ text
       → ((z : List ℕ) × (longer ++ z ≡ before ++ d ∷ front)) ⊎ IsLonger (before ++ d ∷ front) longer rest y
   part longer y e = elim (overlap longer (before ++ d ∷ front) y rest (e ∙ token_text)) [
@@ -160,11 +161,11 @@ module _ {opened : ℕ} {before text : List ℕ} (c : ValueContext opened before
   token_error read =
       (no_deep, no_range read, inr (stuck_at (before ++ d ∷ front) rest token_text none built.0, no_escape))
 
--- ---- a word
+-- ---- a literal
 
 module _ {b : ℕ} {word : List ℕ} {t : Tree} (w : Word b word t) (others : List ℕ) (begins : word ≡ b ∷ others) (tokens : Run is_token word)
     {opened : ℕ} {before text : List ℕ} (c : ValueContext opened before text) (more : List ℕ) (e : text ≡ b ∷ more) where
-  -- A text that begins with the first byte of the word does not begin with a number.
+  -- A text that begins with the first byte of the literal `word` does not begin with a number.
   no_number : IsUnread text OutOfRange → ⊥
   no_number (count, f, (n, spelled, past)) =
       let number_kind = kind_at (number n) b more text (drop count text) e
@@ -174,7 +175,7 @@ module _ {b : ℕ} {word : List ℕ} {t : Tree} (w : Word b word t) (others : Li
 
   module _ {left count : ℕ} (g : CommonFront text word count) (left_is : left ≡ length text - count)
       (other : (rest : List ℕ) → text ≢ word ++ rest) where
-    -- The byte of `text` after the common prefix is not the next byte of the word.
+    -- The byte of `text` after the common prefix is not the next byte of the literal `word`.
     stopped : (rest more next x : List ℕ) → StartsAs rest next → next ≡ more ++ x → g.rest ≡ rest → g.more ≡ more → ⊥
     stopped rest [] next x starts same r m =
         other g.rest (g.text_is ∙ ap (λ (l : List ℕ). l ++ g.rest) (sym (g.word_is ∙ ap (λ (l : List ℕ). g.front ++ l) m ∙ append-nil g.front)))
@@ -208,7 +209,7 @@ module _ {b : ℕ} {word : List ℕ} {t : Tree} (w : Word b word t) (others : Li
         (omega (arith, left_is, g.count_is, ap length g.text_is, length-append g.front g.rest))
         (token_error c d front g.rest g.more t is value run (stuck d front h) no_number)
 
-  -- A fault of reading the word is the error of the whole text.
+  -- A fault of reading the literal `word` is the error of the whole text.
   pub word_fault : (fault : Fault) → WordFault text word fault → RejectsBy (before ++ text) fault
   word_fault (faults.Syntax left) (count, g, left_is, other) = word_error g left_is other g.front refl
   word_fault fault h = absurd h
@@ -250,8 +251,8 @@ module _ {opened : ℕ} {before text : List ℕ} (c : ValueContext opened before
   split : text ≡ front ++ rest
   split = sym (take-append-drop s.count text)
 
-  -- A text that continues after `front` with the first byte of `rest` does not begin with a number
-  -- that ends there.
+  -- If a text continues after `front` with the first byte of `rest`, a byte of a number follows
+  -- each number at its start.
   no_front : (n : Decimal) (next x : List ℕ) → StartsAs rest next → Front (λ front. Spells front n) (front ++ next) x → Stops x → ⊥
   no_front n next x starts f stops = elim (overlap f.front front x next (sym f.is)) [
     | inl o ↦ elim s.stops [

@@ -58,7 +58,8 @@ module _ (text start rest end : List ℕ) (t : Tree) (s : Skips text start) (r :
   pub whole : length end ≡ 0 → Accepted text (settled t)
   whole z = subst (λ (l : List ℕ). Accepted l (settled t)) (sym seen_text) (seen_accepted end (rw (nil_from_length end z) tt))
 
-  -- If bytes are left after the value and white space, no JSON text continues like the text.
+  -- If bytes are left after the value and white space, no JSON text continues after the white space
+  -- with the first of these bytes.
   behind_stuck : (length end ≡ 0 → ⊥) → IsStuckAfter seen end
   behind_stuck some u next starts (b, v, a, sb, w, sa, e) =
       let front = r.found.front in

@@ -35,7 +35,7 @@ pub space-Stops : (s x : List ℕ) → IsSpace s → Stops x → Stops (s ++ x)
 space-Stops [] x h p = p
 space-Stops (b ∷ s) x h p = space_stops b h.0
 
--- Any value may end before a byte that is not a byte of a number.
+-- Any value may end before `x` if `x` does not begin with a byte of a number.
 pub Ends-any : (t : Tree) (x : List ℕ) → Stops x → Ends t x
 Ends-any (number n) x h = h
 Ends-any t x h = tt

@@ -55,7 +55,7 @@ pair_same m n values a b x y p q l r e =
     let v = values p.value q.value x y p.is_value q.is_value l r h.1 in
     (ap₂ (λ (k : List ℕ) (t : Tree). (k, t)) k.0 v.0, (same_front a b x y e v.1.1, v.1.1))
 
--- If a word begins two equal texts, the texts after the word are equal.
+-- If two equal texts begin with `word`, the texts after `word` are equal.
 word_same : (word a b x y : List ℕ) → a ≡ word → b ≡ word → a ++ x ≡ b ++ y → (a ≡ b) × (x ≡ y)
 word_same word a b x y v w e = (v ∙ sym w, append_cancel_left word x y (rw (v, w) at e))
 

@@ -124,7 +124,8 @@ settled-push (t' ∷ ts) t (u ∷ us) e =
     let rest : items_of us ≡ settled_items (items_of ts) = cc in
     ap₂ item first (settled-push ts t us rest)
 
--- In a list of settled members, the last member `(k, t)` is put last.
+-- Putting the settled members of `ms ++ (k, t) ∷ []` puts the settled members of `ms`, then the
+-- settled `t` at the key `k`.
 put_each-push : (ms : List (List ℕ × Tree)) (k : List ℕ) (t : Tree) (into : List (List ℕ × Tree))
     → put_each into (settled_pairs (members_of (ms ++ (k, t) ∷ []))) ≡ put (put_each into (settled_pairs (members_of ms))) k (settled t)
 put_each-push [] k t into = refl

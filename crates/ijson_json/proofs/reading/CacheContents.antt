@@ -114,8 +114,8 @@ items_push : (cache : Texts) (vs : List WellFormed) (v : WellFormed) → ItemsAr
 items_push cache [] v h g = (g, tt)
 items_push cache (w ∷ vs) v h g = (h.0, items_push cache vs v h.1 g)
 
--- If the old cache contains the long strings of `vs`, and the new cache contains those of `v`, the
--- new cache contains the long strings of both.
+-- If the old cache contains the long strings of `vs`, and the new cache contains the long strings
+-- of `v`, the new cache contains the long strings of `vs` and of `v`.
 pub item_shared : (text : List ℕ) (old new : Texts) (vs : List WellFormed) (v : WellFormed) → AddsOnlyRead text old new
     → ItemsAreShared old (item_trees vs) → AreShared new v.tree → ItemsAreShared new (item_trees (vs ++ v ∷ []))
 item_shared text old new vs v adds h g = items_push new vs v (items_more adds (item_trees vs) h) g
@@ -129,8 +129,8 @@ members_put cache (p ∷ ps) k v h i g =
     elim (bytes_eq p.0 k) as (λ b. MembersAreShared cache (pair_trees (if b then (p.0, v) ∷ ps else p ∷ put ps k v)))
     [ true ↦ (h.0, g, h.2) | false ↦ (h.0, h.1, members_put cache ps k v h.2 i g) ]
 
--- If the old cache contains the long strings of `ps`, and the new cache contains those of `p`, the
--- new cache contains the long strings of both.
+-- If the old cache contains the long strings of `ps`, and the new cache contains the long strings
+-- of `p`, the new cache contains the long strings of `ps` and of `p`.
 pub member_shared : (text : List ℕ) (old new : Texts) (ps : List (List ℕ × WellFormed)) (p : List ℕ × WellFormed)
     → AddsOnlyRead text old new → MembersAreShared old (pair_trees (put_each [] ps)) → IsShared new p.0 × AreShared new p.1.tree
     → MembersAreShared new (pair_trees (put_each [] (ps ++ p ∷ [])))

@@ -121,8 +121,8 @@ module _ (E : Type 0) (S : Shape E) (L : Listing E S) where
 
 module _ {E : Type 0} {S : Shape E} {L : Listing E S} {opened : ℕ} {text cur after : List ℕ} {found : List E} {t : E}
     (r : Reached E S L opened text found cur) (d : ElementRead E S (opened + 1) cur t after) where
-  -- The element at the start of a text is the element `t` that was read, if the text continues so
-  -- that `t` ends there.
+  -- If a text begins with the element `t` that was read, and `t` may end there, its first element
+  -- is `t`.
   item_is : (e : E) (more : List E) (x s tail : List ℕ) → (a : At E S e more (d.found.front ++ (s ++ tail)) x) → IsSpace s
       → Past is_space tail → Ends (S.inner t) (s ++ tail) → (e ≡ t) × (a.tail ≡ tail)
   item_is e more x s tail a h p n =

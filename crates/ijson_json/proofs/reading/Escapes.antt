@@ -25,13 +25,14 @@ short_ascii : (b m : ℕ) → short_escape b ≡ Some m → b < 128
 unfolding short_escape
 short_ascii b m h = grind (arith, nat_tests)
 
--- The byte that the letter denotes after a backslash, or `.` if the escape is invalid.
+-- The byte that the letter `b` denotes after a backslash, or `.` if the escape is invalid.
 abbrev pub meaning_of : ℕ → ℕ
 meaning_of b =
     cond ((b == 34) || ((b == 92) || (b == 47))) b
     (cond (b == 98) 8 (cond (b == 102) 12 (cond (b == 110) 10 (cond (b == 114) 13 (cond (b == 116) 9 46)))))
 
--- If `meaning_of b` is not `.`, the letter `b` denotes this byte, which is ASCII.
+-- If `meaning_of b` is not `.`, the escape letter `b` denotes the byte `meaning_of b`, which is
+-- ASCII.
 pub meaning_found : (b : ℕ) → meaning_of b ≢ 46 → (short_escape b ≡ Some (meaning_of b)) × (meaning_of b < 128)
 unfolding short_escape
 meaning_found b h = (grind (arith, nat_tests), grind (arith, nat_tests))
@@ -48,13 +49,13 @@ pub digit_small : (b d : ℕ) → hex_digit b ≡ Some d → (d < 16) × (b < 12
 unfolding hex_digit
 digit_small b d h = (grind (arith, nat_tests), grind (arith, nat_tests))
 
--- If `hex_code o` is below 65536, `o` is `Some` of this code.
+-- If `hex_code o` is a value `v` below 65536, `o` is `Some v`.
 pub code_digit : (o : Option ℕ) (v : ℕ) → v ≡ hex_code o → v < 65536 → o ≡ Some v
 code_digit (Some d) v is less = ap Some (sym is)
 code_digit None v is less = absurd (omega arith)
 
--- If the sum of four codes is below 65536, the text begins with four hexadecimal digits of this
--- value.
+-- If the codes of the first four bytes, as digits in base 16, have a value below 65536, the text
+-- begins with four hexadecimal digits that have this value.
 pub hex_at : (text bytes rest : List ℕ) (x y z w : ℕ) → bytes ≡ text → 4 ≤ length bytes → rest ≡ drop 4 text
     → x ≡ hex_code (hex_digit (get_or bytes 0 0)) → y ≡ hex_code (hex_digit (get_or bytes 1 0))
     → z ≡ hex_code (hex_digit (get_or bytes 2 0)) → w ≡ hex_code (hex_digit (get_or bytes 3 0))
@@ -68,7 +69,8 @@ hex_at text (a ∷ b ∷ c ∷ d ∷ more) rest x y z w t l e f g h i less =
     )
 hex_at text bytes rest x y z w t l e f g h i less = absurd (omega arith)
 
--- If the sum of four codes is at least 65536, the text does not begin with four hexadecimal digits.
+-- If the codes of the first four bytes, as digits in base 16, have a value of at least 65536, the
+-- text does not begin with four hexadecimal digits.
 pub no_hex : (text bytes : List ℕ) (x y z w : ℕ) → bytes ≡ text
     → x ≡ hex_code (hex_digit (get_or bytes 0 0)) → y ≡ hex_code (hex_digit (get_or bytes 1 0))
     → z ≡ hex_code (hex_digit (get_or bytes 2 0)) → w ≡ hex_code (hex_digit (get_or bytes 3 0))

@@ -52,7 +52,8 @@ module _ {k text cur : List ℕ} (r : KeyRead k text cur) where
   pub key_behind : text ≡ (r.key ++ (r.gap ++ 58 ∷ r.gap')) ++ cur
   key_behind = r.is ∙ simp append_assoc
 
--- The same key can be read before any text without leading white space.
+-- The key `k` that was read is also read if any text `next` without leading white space follows
+-- instead of `cur`.
 pub key_again : {k text cur : List ℕ} (r : KeyRead k text cur) (next : List ℕ) → Past is_space next
     → KeyRead k ((r.key ++ (r.gap ++ 58 ∷ r.gap')) ++ next) next
 key_again r next p = record {

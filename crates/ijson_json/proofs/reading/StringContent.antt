@@ -45,7 +45,7 @@ pub record Reached (text s rest : List ℕ) : Type 0 where
   pub is : text ≡ written ++ rest
   pub only : (t x : List ℕ) → ContentAt text t x → (t' : List ℕ) × ContentAt rest t' x
 
--- At the start, empty content was read.
+-- At the start of a text, the content read so far is empty.
 pub reached_start : (text : List ℕ) → Reached text [] text
 reached_start text = record { written = []; body = empty; is = refl; only = λ t x h. (t, h) }
 

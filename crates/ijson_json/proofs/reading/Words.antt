@@ -1,4 +1,4 @@
--- Lemmas about reading the words `null`, `true` and `false`.
+-- Lemmas about reading the literals `null`, `true` and `false`.
 use Rattle.std.proofs.Common.{◌≡◌, ℕ, ◌≤◌, Bool, true, false, List, ◌∷◌, ◌++◌, refl, ap, ◌∙◌, arith, inl, inr}
 use Rattle.std.specs.Prelude.{Result, MatchResult}
 use Rattle.std.specs.Borrow.{Bor}
@@ -31,7 +31,7 @@ null_alone : (t : Tree) (more x : List ℕ) (f : Front (λ value. IsValue t valu
 null_alone null more x f = f.holds
 null_alone t more x f = absurd (let k : 0 ≡ rank t = kind_at t 110 more _ x refl f in omega (arith, k))
 
--- The word `null` spells the tree `null`.
+-- The literal `null` spells the tree `null`.
 pub null_word : Word 110 null_text null
 null_word = record {
   spells = refl;
@@ -61,11 +61,11 @@ boolean_scalar : (a : Bool) (text more : List ℕ) (fault : Fault) → text ≡ 
 boolean_scalar true text more fault e h = (116, more, e, inr (inr (inl (refl, h))))
 boolean_scalar false text more fault e h = (102, more, e, inr (inr (inr (inl (refl, h)))))
 
--- The words `true` and `false` spell the Booleans.
+-- The literals `true` and `false` spell the Booleans.
 pub boolean_word : (a : Bool) → Word (first_of a) (boolean_text a) (boolean a)
 boolean_word a = record { spells = refl; alone = boolean_alone a; flat = omega arith; scalar = boolean_scalar a }
 
--- A word is read as its tree, whatever text follows.
+-- The literal `word` is read as its tree, whatever text follows.
 word_found : (t : Tree) → rank t ≤ 1 → (word rest : List ℕ) → IsValue t word → (opened : ℕ) → opened ≤ max_depth
     → ReadAs opened (word ++ rest) t rest
 word_found null flat word rest v opened within =
@@ -80,8 +80,8 @@ word_shares (boolean a) flat cache = tt
 word_shares t flat cache = absurd (omega arith)
 
 module _ {b : ℕ} {word : List ℕ} {t : Tree} (w : Word b word t) where
-  -- Reading the word at the start of a text returns its tree, or a fault that is possible for the
-  -- text.
+  -- Reading the literal at the start of a text returns its tree, or a fault that is possible for
+  -- the text.
   pub word_reads : (answer : Result (WellFormed × Bor (List ℕ)) Fault) (value : WellFormed) (cache : Texts) (text : List ℕ) (first : ℕ)
       (more : List ℕ) → text ≡ first ∷ more → first ≡ b → value.tree ≡ t
       → MatchResult answer (λ x. (x.0 ≡ value) × (text ≡ word ++ x.1.now)) (λ fault. WordFault text word fault)

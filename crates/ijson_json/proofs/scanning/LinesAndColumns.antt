@@ -57,7 +57,8 @@ characters-within : (bytes : List ℕ) → characters bytes ≤ length bytes
 characters-within [] = omega arith
 characters-within (b ∷ bytes) = omega (arith, tally (begins b) (characters bytes), characters-within bytes)
 
--- Both counts of a proper prefix are less than the length of the whole list.
+-- The line count and the character count of a proper prefix are less than the length of the whole
+-- list.
 pub passed_within : (bytes : List ℕ) (at lines more : ℕ) → at < length bytes → Counts (take at bytes) lines more
     → (lines < length bytes) × (more < length bytes)
 passed_within bytes at lines more before f = (

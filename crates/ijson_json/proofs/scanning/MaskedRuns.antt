@@ -1,4 +1,4 @@
--- Lemmas: the mask of the bytes that fail a test gives the run of bytes that pass the test.
+-- Lemmas: the mask of the bytes that fail a test determines the run of bytes that pass the test.
 use Rattle.std.proofs.Common.{◌≡◌, ℕ, ◌+◌, ◌*◌, ◌<◌, ◌≤◌, Bool, true, false, cond, eqb, List, [], ◌∷◌, map, length, drop, refl, sym, ap}
 use Rattle.std.proofs.Common.{◌∙◌, arith}
 use Rattle.std.specs.Prelude.{not}
@@ -16,7 +16,7 @@ module _ (p : ℕ → Bool) where
   abbrev fails : ℕ → Bool
   fails b = not (p b)
 
-  -- If the first byte passes, and all others pass, the mask is 0.
+  -- If the first byte and the `l` bytes after it pass the test, the mask of the failing bytes is 0.
   none_fails : (b : Bool) (n l m : ℕ) → n ≤ l → cond b (1 + n) 0 ≡ 1 + l → (n ≡ l → m ≡ 0) → cond (not b) 1 0 + 2 * m ≡ 0
   none_fails true n l m le e ih = let z = ih (omega arith) in omega arith
   none_fails false n l m le e ih = let no : ⊥ = omega arith in absurd no
@@ -26,8 +26,8 @@ module _ (p : ℕ → Bool) where
   all_pass [] e = refl
   all_pass (x ∷ xs) e = none_fails (p x) _ (length xs) _ (prefix_len-le-length p xs) (omega arith) (all_pass xs)
 
-  -- The run from `i` ends in the `n` bytes from `i` on, or it continues after them if all of them
-  -- pass.
+  -- The run from `i` ends in the `n` bytes from `i` on, or it continues after them if all `n` bytes
+  -- pass the test.
   split : (d : List ℕ) (i n : ℕ) → prefix_len p (drop i d) ≡ cond (eqb (prefix_len p (chunk i n d)) (length (chunk i n d)))
       (length (chunk i n d) + prefix_len p (drop (i + n) d)) (prefix_len p (chunk i n d))
   split d i n = ap (prefix_len p) (chunk-drop i n d) ∙ prefix_len-append p (chunk i n d) (drop (i + n) d)

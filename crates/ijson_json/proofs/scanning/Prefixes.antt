@@ -13,7 +13,7 @@ pub not_both : (b : Bool) → b ≡ true → b ≡ false → ⊥
 not_both true e f = cc
 not_both false e f = cc
 
--- If the first byte of `x` fails the test `p`, it differs from a byte `c` that passes.
+-- If the first byte of `x` fails the test `p`, it differs from a byte `c` that passes `p`.
 pub past_first : (p : ℕ → Bool) (x : List ℕ) (c : ℕ) (cs : List ℕ) → Past p x → x ≡ c ∷ cs → IsTrue (p c) → ⊥
 past_first p [] c cs h e t = cc
 past_first p (b ∷ x) c cs h e t = let same : b ≡ c = cc in not_both (p c) t (rw (← same) h)
@@ -34,7 +34,7 @@ tails a b x y e = cc
 pub heads_apart : (a b : ℕ) (x y : List ℕ) → a ∷ x ≡ b ∷ y → eqb a b ≡ false → ⊥
 heads_apart a b x y e f = not_both (eqb a b) (eq-eqb a b (heads a b x y e)) f
 
--- If a text is a run and a rest that ends the run, both are unique.
+-- If a text is a run and a rest that ends the run, the run and the rest are unique.
 pub run_same : (p : ℕ → Bool) (a b x y : List ℕ) → Run p a → Run p b → Past p x → Past p y → a ++ x ≡ b ++ y → (a ≡ b) × (x ≡ y)
 run_same p [] [] x y ra rb px py e = (refl, e)
 run_same p [] (c ∷ b) x y ra rb px py e = absurd (past_first p x c (b ++ y) px e rb.0)

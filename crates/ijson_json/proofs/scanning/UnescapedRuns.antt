@@ -15,13 +15,13 @@ use Rattle.ijson_json.specs.Strings.{is_unescaped}
 use Rattle.ijson_json.specs.private.Reading.{Past}
 use Rattle.ijson_json.proofs.scanning.Prefixes.{Run}
 
--- Each of the first `n` bytes passes, if the longest run has at least `n` bytes.
+-- Each of the first `n` bytes passes the test `p`, if the longest run has at least `n` bytes.
 pub run_before : (p : ℕ → Bool) (xs : List ℕ) (n : ℕ) → n ≤ prefix_len p xs → Run p (take n xs)
 run_before p xs n few = recursion_from_All (λ b. IsTrue (p b)) _ (λ k d h.
     let below : k < n = omega (arith, length-take-le n xs (omega (arith, few, prefix_len-le-length p xs)), h) in
     rw (get_or-take n xs k d below) (prefix_len_passes p xs k d (omega (arith, few))))
 
--- If all of the first `n` bytes pass, the longest run has at least as many bytes.
+-- If all of the first `n` bytes pass the test, the longest run has at least as many bytes.
 pub run_covers : (p : ℕ → Bool) (xs : List ℕ) (n : ℕ) → prefix_len p (take n xs) ≡ length (take n xs)
     → length (take n xs) ≤ prefix_len p xs
 run_covers p xs n all =
@@ -31,7 +31,7 @@ run_covers p xs n all =
     ∙ ap (λ b. cond b (length first + prefix_len p (drop n xs)) (prefix_len p first)) (eq-eqb _ _ all) in
     omega (arith, whole)
 
--- Each byte of the longest run passes.
+-- Each byte of the longest run passes the test.
 pub run_passes : (p : ℕ → Bool) (xs : List ℕ) → Run p (take (prefix_len p xs) xs)
 run_passes p xs = run_before p xs (prefix_len p xs) (omega arith)
 
@@ -67,18 +67,19 @@ run_twice p (x ∷ xs) = elim (p x) as (λ v. cond (not (not v)) (1 + position_o
       | false ↦ refl
     ]
 
--- Replacing `first` by `None` if `first` is not below `all`, with the default `all`, keeps a number
--- of at most `all`.
+-- If `first` is at most `all`, `Some first`, or `None` if `first` is `all`, unwraps to `first` with
+-- the default `all`.
 first_or_all : (first : ℕ) {run all : ℕ} → first ≡ run → run ≤ all → unwrap_or (cond (ltb first all) (Some first) None) all ≡ run
 first_or_all first is within = grind (arith, nat_tests)
 
--- The index of the first byte that fails, or else the number of bytes, is the length of the longest
--- run.
+-- The index of the first byte that fails the test, or else the number of bytes, is the length of
+-- the longest run.
 pub run_end : (p : ℕ → Bool) (xs : List ℕ) {n : ℕ} {found : Option ℕ} → n ≡ unwrap_or found (length xs)
     → found ≡ position (λ b. not (p b)) xs → n ≡ prefix_len p xs
 run_end p xs {n} {found} is first = is ∙ ap (λ o. unwrap_or o (length xs)) first ∙ first_or_all _ (run_twice p xs) (prefix_len-le-length p xs)
 
--- All bytes from `start` to the end of the run pass, and the byte after the run fails.
+-- All bytes from `start` to the end of the run pass the test, and the byte after the run fails the
+-- test.
 pub run_from : (p : ℕ → Bool) (xs : List ℕ) (start end : ℕ) → end ≡ start + prefix_len p (drop start xs)
     → Run p (take (end - start) (drop start xs)) × Past p (drop end xs)
 run_from p xs start end e =

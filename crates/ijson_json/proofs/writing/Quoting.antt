@@ -125,8 +125,8 @@ module _ {old out text left : List ℕ} (w : Escaping old out text left) where
   pub escaping_end : (end : List ℕ) → left ≡ [] → out ++ end ≡ old ++ (all_escaped text ++ end)
   escaping_end end e = rw (w.is, w.whole, e, append-nil w.done) (append_assoc old w.done end)
 
-  -- If an append fails without writing anything, a proper prefix of the escaped text and `end` was
-  -- written.
+  -- If an append fails without writing anything, and `end` is not empty, a proper prefix of the
+  -- escaped text and `end` was written.
   pub escaping_begun : {new : List ℕ} (end : List ℕ) → end ≢ [] → new ≡ out
       → WritesBeginning (Some old) (Some new) (all_escaped text ++ end)
   escaping_begun end some same = record {

@@ -12,8 +12,8 @@ abbrev pub StartsAs : List ℕ → List ℕ → Type 0
 StartsAs [] text = text ≡ []
 StartsAs (b ∷ rest) text = (more : List ℕ) × (text ≡ b ∷ more)
 
--- Holds if `text` is JSON. The text must be within a limit if `value`, inside `opened` containers,
--- is within that limit.
+-- Holds if `text` is JSON, and exceeds only limits that `value`, inside `opened` containers,
+-- exceeds.
 pub record Built (opened : ℕ) (value : Tree) (text : List ℕ) : Type 0 where
   pub tree : Tree
   pub spelled : Spaced (λ text. IsValue tree text) text
@@ -37,7 +37,7 @@ pub record Context (E : Type 0) (Is : E → List ℕ → Type 0) (inner : E → 
 abbrev pub ValueContext : ℕ → List ℕ → List ℕ → Type 0
 ValueContext opened before text = Context Tree (λ t value. IsValue t value) (λ t. t) IsValuePlace opened before text
 
--- Holds if `text` is the beginning of an object that ends where a member may begin.
+-- Holds if `text` is the beginning of an object, up to where a member may begin.
 abbrev pub IsOpenObject : List ℕ → Type 0
 IsOpenObject text =
     (gap members space : List ℕ) × IsSpace gap × EachWithComma IsMember members × IsSpace space

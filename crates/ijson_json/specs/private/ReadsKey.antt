@@ -9,7 +9,7 @@ use Rattle.ijson_json.specs.private.Reading.{KeyRead}
 use Rattle.ijson_json.specs.declared.fault.Fault.{Fault}
 
 -- Holds if `key` was read at the start of `text`, its value begins at `cur`, and `cache` contains
--- `key` if it is long.
+-- `key` if it has more than 7 bytes.
 pub record HasRead (text : List ℕ) (cache : Texts) (key cur : List ℕ) : Type 0 where
   pub read : KeyRead key text cur
   pub shared : IsShared cache key

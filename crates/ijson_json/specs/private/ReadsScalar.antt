@@ -10,8 +10,8 @@ use Rattle.ijson_json.specs.private.Explains.{ScalarFault}
 use Rattle.ijson_json.specs.private.Reading.{ReadAs}
 use Rattle.ijson_json.specs.declared.fault.Fault.{Fault}
 
--- Holds if the leading value was read, inside any number of open containers, and the cache contains
--- its string.
+-- Holds if the leading value was read, inside any number of open containers up to `max_depth`.
+-- `cache` contains the value's string if it has more than 7 bytes.
 pub record ScalarRead (text : List ℕ) (cache : Texts) (value : WellFormed) (rest : List ℕ) : Type 0 where
   pub read : (opened : ℕ) → opened ≤ max_depth → ReadAs opened text value.tree rest
   pub shared : AreShared cache value.tree

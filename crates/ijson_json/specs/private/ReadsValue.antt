@@ -10,8 +10,8 @@ use Rattle.ijson_json.specs.private.Reading.{ReadAs}
 use Rattle.ijson_json.specs.declared.fault.Fault.{Fault}
 use Rattle.ijson_json.specs.declared.read.scratch.Scratch.{Scratch}
 
--- Holds if the leading value was read inside `opened` containers, the cache contains its strings,
--- and the stacks in the scratch are unchanged.
+-- Holds if the leading value was read inside `opened` containers, the cache contains its strings
+-- and keys of more than 7 bytes, and the stacks in the scratch are unchanged.
 pub record ValueRead (opened : ℕ) (text : List ℕ) (cache : Texts) (old new : Scratch)
     (value : WellFormed) (rest : List ℕ) : Type 0 where
   pub read : ReadAs opened text value.tree rest

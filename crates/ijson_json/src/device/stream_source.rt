@@ -1,5 +1,5 @@
-//! A source that reads from a `std::io::Read`. In contracts, the remaining bytes are the remaining
-//! bytes of the reader, if known.
+//! A source that reads from a `std::io::Read`. In contracts, the source's remaining bytes are
+//! `Read.remaining` of the reader, which may be unknown.
 ghost use Rattle.std.specs.Prelude.{◌≡◌};
 
 use crate::device::{DeviceFault, Source};

@@ -104,8 +104,8 @@ fn take_unit(text: &str) -> Option<(u32, &str)>
     Some((unit, &text[4..]))
 }
 
-/// Reads the escape of a low surrogate, and returns its character with `high` and the text after
-/// it.
+/// Reads the escape of a low surrogate after the high surrogate `high`. Returns the character of
+/// the pair and the text after the escape.
 fn take_low(high: u32, text: &str) -> Option<(char, &str)>
     requires { IsTrue (is_high_surrogate high) }
     ensures { MatchOption result (NoLow text.now)
@@ -120,7 +120,8 @@ fn take_low(high: u32, text: &str) -> Option<(char, &str)>
     Some((character, rest))
 }
 
-/// Reads the code or surrogate pair after `\u`, and returns its character and the text after it.
+/// Reads the code or surrogate pair after `\u`. Returns the character and the text after the
+/// escape.
 fn take_unicode(text: &str) -> Option<(char, &str)>
     ensures { MatchOption result (NoCharacter (92 ∷ 117 ∷ text.now))
         (λ x. CharacterAt (92 ∷ 117 ∷ text.now) (encode_utf8 x.0) x.1.now) }

@@ -13,7 +13,7 @@ use ijson_value::value::IValue;
 use std::alloc::Global;
 use std::hash::BuildHasher;
 
-/// Reads `word` at the start of `text`, and returns `value` and the text after the word.
+/// Reads `word` at the start of `text`, and returns `value` and the text after `word`.
 #[inline(always)]
 fn read_word<'a>(text: &'a str, word: &str, value: IValue) -> Result<(IValue, &'a str), Fault>
     ensures { MatchResult result

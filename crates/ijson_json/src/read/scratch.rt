@@ -14,7 +14,8 @@ use ijson_value::value::IValue;
 use std::alloc::{AllocError, Global};
 use std::mem;
 
-/// A stack with more elements or members than this is moved instead of copied, if possible.
+/// If a stack has more elements or members than this, and all of them are taken, the list of the
+/// stack is moved instead of copied.
 const MANY_ITEMS: usize = 64;
 
 /// The elements, members and string content that are not part of a value yet.

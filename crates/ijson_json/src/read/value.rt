@@ -120,7 +120,7 @@ fn read_array<'a, S: BuildHasher>(
 
 /// Reads the members of an object. `inside` is the text after the opening bracket.
 ///
-/// A duplicate key replaces the value.
+/// A duplicate key replaces the earlier value.
 #[cycle(read)]
 #[inline(never)]
 fn read_object<'a, S: BuildHasher>(

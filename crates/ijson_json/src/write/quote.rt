@@ -72,7 +72,7 @@ fn push_escape(out: &mut String, byte: u8) -> Result<(), AllocError>
 ///
 /// # Errors
 ///
-/// Returns `AllocError` if an allocation fails. A beginning of the new bytes may have been
+/// Returns `AllocError` if an allocation fails. A proper prefix of the new bytes may have been
 /// appended.
 pub fn push_quoted(out: &mut String, text: &str) -> Result<(), AllocError>
     ensures written { OnOk result (string_bytes out.new ≡ string_bytes out.old ++ quoted text.now) }
@@ -89,7 +89,7 @@ pub fn push_quoted(out: &mut String, text: &str) -> Result<(), AllocError>
 ///
 /// # Errors
 ///
-/// Returns `AllocError` if an allocation fails. A beginning of the new bytes may have been
+/// Returns `AllocError` if an allocation fails. A proper prefix of the new bytes may have been
 /// appended.
 pub fn push_key(out: &mut String, key: &str, is_first: bool) -> Result<(), AllocError>
     ensures written { OnOk result (string_bytes out.new ≡ string_bytes out.old ++ key_text is_first key.now) }

@@ -141,8 +141,8 @@ fn null_of_tokens(alloc: Global, cache: &mut Cache, key: &String) -> Built
     ijson!(alloc, cache; {key.as_str(): null})
 }
 
-// Each literal has a function of its own, with nothing else to drop, because each call in its
-// expansion is an exit that drops the arrays and objects built so far.
+// Each call in the expansion of a literal can return early, and then drops the arrays and objects
+// built so far. With one literal per function, an early return has nothing else to drop.
 
 /// Builds an object with a duplicate key, a key that is an expression, and a trailing comma.
 fn pairs(alloc: Global, cache: &mut Cache, key: &str) -> Built {

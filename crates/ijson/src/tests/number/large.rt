@@ -1,4 +1,5 @@
-//! Tests with too many calls or too long numbers to be run with each allocation failing in turn.
+//! Tests that make too many calls, or use numbers that are too long, to be run once per failing
+//! allocation.
 
 use super::lengths::{POWERS, keep_long, keeps_each};
 

@@ -1,6 +1,6 @@
 //! Tests of numbers of many lengths.
 //!
-//! No clause states that a call succeeds if memory is available.
+//! No clause states that a call succeeds if memory is available, so each small length is tried.
 
 use super::Fact::{Stripped, Text};
 use super::is_known;
@@ -19,14 +19,14 @@ fn repeated(rt: &impl Abort, alloc: Global, letters: &str, count: usize) -> Stri
     text
 }
 
-/// Asserts that the number `text` is written as `want`, and has this canonical significand and
-/// exponent.
+/// Asserts that the number `text` is written as `want`, and has the canonical significand `digits`
+/// and the exponent `exponent`.
 fn keeps(rt: &impl Abort, alloc: Global, text: &str, want: &str, digits: &str, exponent: i32) {
     is_known(rt, alloc, text, &[Text(want), Stripped(digits, exponent)]);
 }
 
-/// Calls `keeps` for `digits` with a point before each digit, and with up to `most` zeros after the
-/// point.
+/// Calls `keeps` for `digits` with `scale` fraction digits, for each `scale` from 1 to the number
+/// of digits plus `most`.
 fn keeps_each_scale(rt: &impl Abort, alloc: Global, sign: &str, digits: &str, most: usize) {
     for scale in 1..=digits.len().saturating_add(most) {
         let zeros = scale.saturating_add(1).saturating_sub(digits.len());

@@ -1,6 +1,6 @@
 //! Tests of objects of each small size.
 //!
-//! No clause states that a call succeeds if memory is available.
+//! No clause states that a call succeeds if memory is available, so each small size is tried.
 
 use super::Pair;
 use super::created::{Way, through_map};

@@ -221,7 +221,8 @@ fn object_with(rt: &impl Abort, alloc: Global, letters: &str, there: bool) -> IV
     value
 }
 
-/// Asserts the text after each call that ignores a missing key sets the value of a key to true.
+/// Sets the value of a key to true by each call that ignores a missing key, and asserts the
+/// resulting text.
 fn writes(rt: &impl Abort, alloc: Global, letters: &str, there: bool, want: &str) {
     let mut value = object_with(rt, alloc, letters, there);
     set_pair(value.as_object_mut().expect(rt, "an object"), letters);

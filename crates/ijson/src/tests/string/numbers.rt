@@ -23,11 +23,11 @@ pub(super) enum Call {
     UpDown,
 }
 
-/// A call, its count of strings, the maximum number of strings that it hashes, and the number of
-/// strings in the cache after it.
+/// A call, its count of strings, a bound for the number of strings that it hashes, and the number
+/// of strings in the cache after it.
 ///
-/// The numbers are multiplied by a unit, so that a script can run with few or with many strings.
-/// Two more strings than the maximum may be hashed.
+/// The numbers are multiplied by a unit, so that a script can run with few or with many strings. A
+/// call may hash two strings more than the multiplied bound.
 pub(super) type Row = (Call, usize, usize, usize);
 
 pub(super) static SCRIPTS: [&[Row]; 4] = [

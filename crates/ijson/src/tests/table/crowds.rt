@@ -116,7 +116,7 @@ pub fn inspections<H: KeyHash + Drop>(rt: &impl Host, chosen: Chosen, count: usi
 ///
 /// - The maximum is 36 inspections per entry, and two more per entry and halving.
 /// - The minimum is 33 inspections per entry, and half a comparison more per entry and halving. 32
-///   of these inspections are the steps before sorting, and the other is at the first entry of each
+///   of the inspections are the steps before sorting, and the 33rd is at the first entry of each
 ///   key.
 ///
 /// If keys are repeated consecutively, fewer entries are sorted, but each takes more than the

@@ -22,8 +22,8 @@ fn many_entries(rt: HostRuntime) {
     // These insertions exceed the bound of steps, so the slots are filled by sorting.
     fills::<Crowded>(&rt, 2_000, 2_000, true);
     fills::<Crowded>(&rt, 2_000, 4_000, true);
-    // The two home slots are in reverse order after growth, so the entries are not sorted by home
-    // slot.
+    // Growth reverses the two home slots of `ByParity`: 0 and 1 before it, 2500 and 1 after it. An
+    // order by the old home slots is therefore not an order by the new home slots.
     fills::<Table<u64, ByParity>>(&rt, 2_000, 2_000, true);
 }
 

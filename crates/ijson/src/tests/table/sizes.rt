@@ -1,6 +1,6 @@
 //! Tests of stores of many sizes that grow, shrink and are copied.
 //!
-//! No clause states that a call succeeds if memory is available.
+//! Many sizes are tried, since no clause states that a call succeeds if memory is available.
 
 use super::Step::*;
 use super::*;

@@ -36,8 +36,8 @@ fn has_positions<P: Places>(table: &P, positions: &[usize]) -> bool {
     true
 }
 
-/// A step, the debug output of its reply, the indices in the slots after it, and the inspections of
-/// a lookup.
+/// A step, the debug output of its reply, the indices in the slots after it, and the number of
+/// inspections if the step is `Find`.
 type Worked = (Step, &'static str, &'static [usize], u128);
 
 const A_REMOVED: &str = "Removed(Some((\"a\", 0)))";

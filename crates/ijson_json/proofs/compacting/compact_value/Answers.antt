@@ -72,7 +72,7 @@ unwritten : (r : Result WellFormed CompactError) (left rest got : Option (List �
 unwritten r left rest got before after failed old new e is read not_write = refused r left rest got got before after failed failed old new
     e is read ((λ q. absurd (not_write q)), (λ l. absurd (omega (arith, l)))) (λ q. absurd (not_write q)) (λ _. Keeps-refl got)
 
--- A property that always holds also holds for the bytes of a source, known or unknown.
+-- `⊤` holds for the bytes of a source, known or unknown.
 unsaid : (left : Option (List ℕ)) → IfSome left (λ _. ⊤)
 unsaid None = tt
 unsaid (Some bytes) = tt

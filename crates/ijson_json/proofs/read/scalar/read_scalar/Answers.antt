@@ -34,7 +34,7 @@ returns-in_ok-string-in-34 g c =
       };
     }
 
--- ---- a word
+-- ---- a literal
 
 pub returns-in-110 : goal.returns-in-110
 returns-in-110 g c = word_reads null_word c.read_word.result _ c.args.cache.now c.args.text.now c.args.first
