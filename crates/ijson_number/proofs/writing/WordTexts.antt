@@ -358,8 +358,8 @@ module _ (P : ℕ → Type 0) (all front back : List ℕ) (parts : all ≡ front
   pub back_too : All P back
   back_too = subst (All P) (drop_at front back (length front) refl) (All-drop P (length front) (front ++ back) (subst (All P) parts each))
 
--- Writing the digits `run` keeps the invariant of the loop: the text written, followed by the text of
--- the remaining digits, is `whole`.
+-- Writing the digits `run` keeps the invariant of the loop: the text written, followed by the text
+-- of the remaining digits, is `whole`.
 pub run_more : (done text run rest all : List ℕ) (whole : List ℕ) → all ≡ run ++ rest → text ≡ digits_text run → done ++ digits_text all ≡ whole
     → (done ++ text) ++ digits_text rest ≡ whole
 run_more done text run rest all whole is shown so_far =

@@ -125,8 +125,8 @@ impl Word {
         self.code() != NO_POINT
     }
 
-    /// Returns `Some(true)` if the words have the same number and decimal point, `Some(false)` if they
-    /// agree only on the decimal point, and `None` if they do not agree on it.
+    /// Returns `Some(true)` if the words have the same number and decimal point, `Some(false)` if
+    /// they agree only on the decimal point, and `None` if they do not agree on it.
     fn eq_by_bits(self, other: Word) -> Option<bool>
         ensures same { IfSome result (λ is_same. IsTrue is_same → self.bits / 16 ≡ other.bits / 16) }
         ensures different { IfSome result (λ is_same. IsFalse is_same → IsOtherWord (Packed self) (Packed other)) }
