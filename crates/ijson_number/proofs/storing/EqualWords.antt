@@ -15,6 +15,6 @@ words_tell s t true _ _ _ _ same _ =
     sym (ap is_eq (same_equal (stored_decimal s) (stored_decimal t) (ap (λ (n : Decimal). n.mantissa) is) (ap (λ (n : Decimal). n.exponent) is)))
 words_tell s t false k l form form' _ different =
     sym (false_from_ne_true (number_eq (stored_decimal s) (stored_decimal t)) (λ is.
-        let parts = equal_same (stored_decimal s) (stored_decimal t) k.plain l.plain (tests_equal _ is) in
-        (different refl).form (sym form
-        ∙ ap form_of (same_decimal _ _ _ _ _ _ parts.0 parts.1 (different refl).point) ∙ form')))
+    let parts = equal_same (stored_decimal s) (stored_decimal t) k.plain l.plain (tests_equal _ is) in
+    (different refl).form (sym form
+    ∙ ap form_of (same_decimal _ _ _ _ _ _ parts.0 parts.1 (different refl).point) ∙ form')))
