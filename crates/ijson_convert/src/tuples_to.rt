@@ -32,7 +32,8 @@ fn push_both<A: ToIValue, B: ToIValue, S: BuildHasher>(
     x: &A,
     y: &B,
 ) -> Result<(), ConvertError>
-    ensures { Pushes (A.ToIValue.tree x.now ∷ B.ToIValue.tree y.now ∷ []) list.old.items list.new.items cache.old cache.new result }
+    ensures { Pushes (A.ToIValue.tree x.now ∷ B.ToIValue.tree y.now ∷ [])
+        list.old.items list.new.items cache.old cache.new result }
 {
     push_of(alloc, cache, list, x)?;
     push_of(alloc, cache, list, y)

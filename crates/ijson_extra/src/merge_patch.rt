@@ -215,7 +215,8 @@ fn within_memory<T>(made: Result<T, ReserveError>) -> Result<T, AllocError>
 /// Appends the keys of `object`, each without a change.
 fn push_unchanged(keys: &mut Changes, object: &IObject) -> Result<(), AllocError>
     requires { length keys.old.items + length object.now.pairs ≤ vec_capacity keys.old }
-    ensures keys { OnOk result (map shown keys.new.items ≡ map shown keys.old.items ++ unchanged (keys_of object.now.pairs)) }
+    ensures keys { OnOk result
+        (map shown keys.new.items ≡ map shown keys.old.items ++ unchanged (keys_of object.now.pairs)) }
     ensures room { vec_capacity keys.new ≡ vec_capacity keys.old }
 {
     for key in object.keys() {

@@ -199,8 +199,10 @@ fn encode_other(
 ) -> Result<Stored, AllocError>
     requires small { IsSmall (significand_of negative magnitude exponent point) }
     requires stripped { exponent <ℤ pos 0 → magnitude % 10 ≢ 0 }
-    ensures form { IfOk result (λ s. stored_form s ≡ form_of (stripped_number (signed negative magnitude) exponent point)) }
-    ensures refused { OnErr result (is_digits (form_of (stripped_number (signed negative magnitude) exponent point)) ≡ true) }
+    ensures form { IfOk result (λ s. stored_form s
+        ≡ form_of (stripped_number (signed negative magnitude) exponent point)) }
+    ensures refused { OnErr result
+        (is_digits (form_of (stripped_number (signed negative magnitude) exponent point)) ≡ true) }
 {
     let significand = Significand {
         negative,

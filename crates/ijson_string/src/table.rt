@@ -81,7 +81,8 @@ impl TextTable {
     /// same length is read.
     pub(crate) fn guess(&self, text: &str) -> Option<u32>
         ensures found { IfSome result (λ at. IsTextAt text.now self.now.keys at) }
-        ensures taken { (at : ℕ) → IsFollower at (length text.now) self.now.followers → IsTextAt text.now self.now.keys at
+        ensures taken { (at : ℕ) → IsFollower at (length text.now) self.now.followers
+            → IsTextAt text.now self.now.keys at
             → result ≡ Some at }
     {
         let next = self.followers.next;
@@ -126,7 +127,8 @@ impl TextTable {
     pub(crate) fn share_at(&mut self, position: u32, text: &str) -> Result<IString, AllocError>
         requires { IsTextAt text.now self.old.keys position }
         ensures text { IfOk result (λ shared. shared ≡ text.now) }
-        ensures followed { self.new ≡ record self.old { followers = followed_by position (length text.now) self.old.followers } }
+        ensures followed { self.new
+            ≡ record self.old { followers = followed_by position (length text.now) self.old.followers } }
     {
         let shared: Result<IString, AllocError> = self.texts[position as usize].clone();
         self.followers.put(position, text.len());

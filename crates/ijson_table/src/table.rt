@@ -218,7 +218,8 @@ impl<V: Drop, H: KeyHash> Table<V, H> {
         looks: &mut Looks,
     ) -> Result<(), ReserveError>
         requires fits { looks.old + 2 ^ 72 < 2 ^ 128 }
-        ensures grown { Grow (length self.old.store.pairs) self.old.store.capacity additional result self.new.store.capacity }
+        ensures grown { Grow (length self.old.store.pairs)
+            self.old.store.capacity additional result self.new.store.capacity }
         ensures room { OnOk result (length self.new.store.pairs + additional ≤ self.new.store.capacity) }
         ensures pairs { self.new.store.pairs ≡ self.old.store.pairs }
         ensures bounded { OnOk result (IsBuildBounded self.new.store.capacity (looks.new - looks.old)) }

@@ -23,7 +23,8 @@ fn overlay(base: &mut IValue, over: IValue) -> Result<bool, RefusedPair>
     ensures laid_over { IfOk result (λ done. IsTrue done → (key : List ℕ)
         → tree_at base.new.tree (by_key key)
         ≡ option_or (tree_at over.tree (by_key key)) (tree_at base.old.tree (by_key key))) }
-    ensures objects { IfOk result (λ done. IsTrue done → (kind_of base.old.tree ≡ Object) × (kind_of over.tree ≡ Object)) }
+    ensures objects { IfOk result (λ done. IsTrue done
+        → (kind_of base.old.tree ≡ Object) × (kind_of over.tree ≡ Object)) }
     ensures left { IfOk result (λ done. IsFalse done
         → (base.new ≡ base.old) × ((kind_of base.old.tree ≢ Object) ⊎ (kind_of over.tree ≢ Object))) }
     ensures refused { OnErr result ((kind_of base.old.tree ≡ Object) × (kind_of over.tree ≡ Object)) }

@@ -54,7 +54,8 @@ pub(crate) fn grow(links: &mut Vec<Link>, buckets: &mut Vec<Bucket>) -> Result<(
     ensures kept { hashes_of links.new.items ≡ hashes_of links.old.items }
     ensures capacity { links.new.cap ≡ links.old.cap }
     ensures room { OnOk result (length links.new.items < 4 * length buckets.new.items) }
-    ensures buckets { OnOk result (length buckets.new.items ≡ buckets_for (length links.old.items) (length buckets.old.items)) }
+    ensures buckets { OnOk result (length buckets.new.items
+        ≡ buckets_for (length links.old.items) (length buckets.old.items)) }
     ensures refused { OnErr result ((links.new ≡ links.old) × (buckets.new.items ≡ buckets.old.items)) }
 {
     if links.len() < TEXTS_PER_BUCKET * buckets.len() {
@@ -96,7 +97,8 @@ pub(crate) fn head_for(buckets: &[Bucket], hash: u32) -> Option<u32>
     requires some { 0 < length buckets.now }
     requires bounded { length buckets.now ≤ 2 ^ 32 }
     ensures inside { bucket_of (length buckets.now) hash < length buckets.now }
-    ensures head { IfSome result (λ head. head ≡ get_or (heads_of buckets.now) (bucket_of (length buckets.now) hash) 0) }
+    ensures head { IfSome result (λ head. head
+        ≡ get_or (heads_of buckets.now) (bucket_of (length buckets.now) hash) 0) }
     ensures passes { IfSome result (λ _. passes (filters_of buckets.now) hash ≡ true) }
     ensures nowhere { IfNone result (passes (filters_of buckets.now) hash ≡ false) }
 {

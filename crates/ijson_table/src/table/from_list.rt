@@ -108,7 +108,8 @@ impl<V: Drop, H: KeyHash> Table<V, H> {
         ensures pairs { IfOk result (λ table. table.store.pairs ≡ put_each [] pairs.items) }
         ensures capacity { IfOk result (λ table. table.store.capacity ≡ vec_capacity pairs) }
         ensures grows { looks.old ≤ looks.new }
-        ensures bounded { (k : ℕ) → vec_capacity pairs ≤ 2 ^ k → looks.new ≤ looks.old + vec_capacity pairs * (1 + 2 * k) }
+        ensures bounded { (k : ℕ) → vec_capacity pairs ≤ 2 ^ k
+            → looks.new ≤ looks.old + vec_capacity pairs * (1 + 2 * k) }
     {
         let modulus = Modulus::new(slots.len());
         let Ok(pairs) = put_sorted::<V, H>(alloc, pairs, modulus, looks) else {

@@ -148,7 +148,8 @@ impl IObject {
         ensures pairs { IfOk result (λ object. object.pairs ≡ put_each [] pairs.items) }
         ensures capacity { IfOk result (λ object. object.capacity ≡ length pairs.items) }
         ensures refused { IfErr result (λ refused. refused.pairs.items ≡ pairs.items) }
-        ensures too_large { IfErr result (λ refused. (refused.why ≡ ReserveError.TooLarge) ↔ (capacity_limit < length pairs.items)) }
+        ensures too_large { IfErr result (λ refused.
+            (refused.why ≡ ReserveError.TooLarge) ↔ (capacity_limit < length pairs.items)) }
         ensures limited { OnOk result (length pairs.items ≤ capacity_limit) }
         ensures none { length pairs.items ≡ 0 → IsOk result }
     {
