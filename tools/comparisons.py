@@ -14,11 +14,11 @@ MODULES = re.compile(r"Each module uses only those before it: ((?:`[\w:]+`,? ?)+
 
 
 def carriers():
-    """(crate, patterns of calls, names of clauses) of each group of carriers of a claim."""
+    """(crate, patterns of calls, names of clauses) of each group of carriers in the last column of a table."""
     _, *parts = re.split(r"^## `(\w+)`$", (TOP / CLAIMS).read_text(), flags=re.M)
     for crate, section in zip(parts[::2], parts[1::2]):
-        for item in re.findall(r"^- .*(?:\n  .*)*", section, re.M):
-            for group in item.partition("→")[2].split(";"):
+        for cell in re.findall(r"^\|.*\| (.*) \|$", section, re.M):
+            for group in cell.split(";"):
                 calls, _, named = group.partition("`: ")
                 yield crate, CODE.findall(calls + "`" * bool(named)), CODE.findall(named)
 
@@ -26,10 +26,10 @@ def carriers():
 def claims():
     """Compares docs/reference/claims.md with the public calls of the crates.
 
-    An item of the list is a claim, an arrow and what carries the claim: calls, and after a colon their clauses; semicolons separate groups. A heading names
-    the crate. Each call (`Type::call`, `Type::*`, or `call` for a function) exists and has these clauses. Each public function, each function of a program,
-    and each trait that is implemented by hand for a public type, is named by an item of its crate: by one of its calls or ghost members. Each public call
-    but those of `WITHOUT` has a clause: an `ensures` of its own or of its trait, or a ghost member of its implementation. No clause holds of everything.
+    A row is a question, a claim and its carriers: calls, and after a colon their clauses; semicolons separate groups. The heading of a table names the crate.
+    Each call (`Type::call`, `Type::*`, or `call` for a function) exists and has these clauses. Each public function, each function of a program, and each
+    trait that is implemented by hand for a public type, is named by a row of its crate: by one of its calls or ghost members. Each public call but those of
+    `WITHOUT` has a clause: an `ensures` of its own or of its trait, or a ghost member of its implementation. No clause holds of everything.
     """
     types, amiss, claimed = {(item.crate, item.name) for item in items(*TYPES)}, [], set()
     all_calls = [item for item in items("fn", "ghost") if item.kind == "fn" or (item.crate, item.owner) in types]
