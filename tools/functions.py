@@ -72,8 +72,7 @@ def tests():
     shared = [function for functions in folders.values() if not any(it.is_test for it in functions) for function in functions]
     for folder, test in ((folder, function) for folder, functions in folders.items() for function in functions):
         if test.is_test and "large" not in test.path.with_suffix("").parts and not re.search(r"\breturn\b|\?;", test.body):
-            bodies = [test.body]
-            # grows while it is read
+            bodies = [test.body]  # grows while it is read
             for body in bodies:
                 near = (it for it in [*shared, *folders[folder]] if not it.is_test and it.name in words_of(body))
                 bodies += [it.body for it in near if it.body not in bodies]
