@@ -1,4 +1,5 @@
-//! Example programs, written like a crate that uses the library.
+//! Example programs, written like a crate that uses the library. They are modules of `ijson`, so
+//! that its tests run them.
 //!
 //! All examples have contracts, and four of them use definitions on trees (`specs/examples`).
 //!

@@ -15,7 +15,8 @@
 /// grows as with `push` and `insert`.
 ///
 /// ```
-/// let value = ijson!(alloc, &mut cache; {"name": "ijson", "sizes": [1u8, 2u8, null], "nested": {"deep": true}})?;
+/// let value = ijson!(alloc, &mut cache;
+///     {"name": "ijson", "sizes": [1u8, 2u8, null], "nested": {"deep": true}})?;
 /// ```
 ///
 /// # Errors
@@ -37,6 +38,9 @@ macro_rules! ijson {
 /// A hidden helper of `ijson!`, which expands the literal.
 #[macro_export]
 macro_rules! ijson_internal {
+    // In all rules, `$a` is the allocator, `$c` the cache, and `$out` the label of the block of the
+    // literal. `$list` and `$pairs` are the array and the object so far.
+
     // Like `?`, but leaves the block of the literal instead of the caller's function.
     (@try $out:lifetime $step:expr) => {
         match $step {

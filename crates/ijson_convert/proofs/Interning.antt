@@ -1,4 +1,5 @@
--- Lemmas about the cache after strings were interned in order.
+-- Interning `xs ++ ys` is interning `xs` and then `ys`, also if only some leading strings are
+-- interned.
 use Rattle.std.proofs.Common.{◌≡◌, ℕ, List, [], ◌∷◌, ◌++◌, map, refl, ap, sym, subst, ◌∙◌}
 use Rattle.std.proofs.lemmas.List.{append_assoc, append-nil}
 use Rattle.ijson_string.specs.Cache.{Texts, interned}

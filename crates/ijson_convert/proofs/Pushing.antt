@@ -1,4 +1,5 @@
--- Lemmas about appending converted elements to an array.
+-- Appending the elements `ts ++ us` to an array appends `ts` and then `us`, and stops at the first
+-- failure.
 use Rattle.std.proofs.Common.{◌≡◌, ◌<◌, ◌+◌, ℕ, suc, List, [], ◌∷◌, ◌++◌, length, map, get_or, take, drop, refl, ap, ap₂, sym, subst, ◌∙◌, append_assoc}
 use Rattle.std.proofs.lemmas.List.{map-append, take_more, take-append-drop}
 use Rattle.std.proofs.Math.Seq.{drop-cons}

@@ -1,4 +1,5 @@
--- Lemmas for reading integers from numbers and for creating numbers from integers.
+-- A tree with an integer value is read as this integer if it fits the type, and otherwise rejected
+-- with `OutOfRange`.
 use Rattle.std.proofs.Common.{◌≡◌, ◌⊎◌, inr, ◌<◌, ◌≤◌, ◌^◌, ℕ, refl, sym, subst, ◌∙◌, arith}
 use mir.Val.{hbits}
 use Rattle.std.specs.Prelude.{ℤ, pos, FitsSigned}

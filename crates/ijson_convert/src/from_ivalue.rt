@@ -65,7 +65,8 @@ pub trait FromIValue: Sized {
 /// `Option`.
 ///
 /// ```
-/// let ids: Vec<u64> = from_value(alloc, &value)?; // of [1,2.0]; [1,"2"] is WrongKind, [1,2.5] OutOfRange
+/// // Reads [1,2.0]. The error is `WrongKind` for [1,"2"], and `OutOfRange` for [1,2.5].
+/// let ids: Vec<u64> = from_value(alloc, &value)?;
 /// ```
 ///
 /// # Errors

@@ -38,7 +38,8 @@ type Changes<'a> = Vec<(IString, Option<&'a IValue>)>;
 /// target that is not an object is treated as an empty object.
 ///
 /// ```
-/// let value = merge_patch(alloc, target, &patch)?; // {"b":2,"c":3} of {"a":1,"b":2} and the patch {"a":null,"c":3}
+/// // The target {"a":1,"b":2} and the patch {"a":null,"c":3} have the result {"b":2,"c":3}.
+/// let value = merge_patch(alloc, target, &patch)?;
 /// ```
 ///
 /// # Errors

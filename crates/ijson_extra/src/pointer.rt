@@ -34,7 +34,8 @@ pub enum PointerError {
 /// The empty pointer refers to `value` itself. Does not allocate.
 ///
 /// ```
-/// let port = resolve(&value, "/servers/0/port")?; // Some of 80 in {"servers":[{"port":80}]}, where "/servers/1" is None
+/// // In {"servers":[{"port":80}]}, the result is `Some` of 80. With "/servers/1", it is `None`.
+/// let port = resolve(&value, "/servers/0/port")?;
 /// let slash = resolve(&value, "/a~1b")?; // the value of the key a/b, as ~1 means / and ~0 means ~
 /// ```
 ///

@@ -1,4 +1,4 @@
--- The beginnings of JSON texts.
+-- Prefixes of JSON texts.
 use Rattle.std.specs.Prelude.{ℕ, Bool, List, ◌++◌}
 use Rattle.ijson_value.specs.Tree.{Tree}
 use Rattle.ijson_json.specs.Grammar.{Reads, Accepted}

@@ -10,7 +10,7 @@ use Rattle.ijson_json.specs.Ranged.{is_ranged}
 use Rattle.ijson_json.specs.Settled.{settled}
 use Rattle.ijson_json.specs.Limits.{max_depth}
 
--- Whether a byte is white space: space, tab, line feed or carriage return (section 2).
+-- Returns `true` if a byte is white space: space, tab, line feed or carriage return (section 2).
 abbrev pub is_space : ℕ → Bool
 is_space b = (b == 32) || ((b == 9) || ((b == 10) || (b == 13)))
 

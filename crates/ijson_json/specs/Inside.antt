@@ -1,4 +1,4 @@
--- The beginnings of JSON texts, by the number of open containers.
+-- Prefixes of JSON texts, by the number of open containers.
 use Rattle.std.specs.Prelude.{◌≡◌, ◌⊎◌, ℕ, suc, List, [], ◌∷◌, ◌++◌}
 use Rattle.ijson_value.specs.Tree.{Tree}
 use Rattle.ijson_json.specs.Strings.{StringBody}
@@ -35,13 +35,13 @@ pub data Inside (P : List ℕ → Type 0) : ℕ → List ℕ → Type 0 where
 abbrev pub IsValuePlace : ℕ → List ℕ → Type 0
 IsValuePlace opened before = Inside IsSpace opened before
 
--- Holds if `text` is the beginning of a string: optional white space, the opening quote and
--- complete characters.
+-- Holds if `text` is a prefix of a string: optional white space, the opening quote and complete
+-- characters.
 abbrev pub IsOpenString : List ℕ → Type 0
 IsOpenString text = (gap body s : List ℕ) × IsSpace gap × StringBody body s × (text ≡ gap ++ 34 ∷ body)
 
--- Holds if `text` is the beginning of an object up to a position inside a key: complete members,
--- then the opening quote and complete characters of the key.
+-- Holds if `text` is a prefix of an object that ends inside a key: complete members, then the
+-- opening quote and complete characters of the key.
 abbrev pub IsOpenKey : List ℕ → Type 0
 IsOpenKey text =
     (gap members key : List ℕ) × IsSpace gap × EachWithComma IsMember members × IsOpenString key

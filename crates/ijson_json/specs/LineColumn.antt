@@ -7,8 +7,8 @@ abbrev pub line_feeds : List ℕ → ℕ
 line_feeds [] = 0
 line_feeds (b ∷ bytes) = cond (nat_eq b 10) (suc (line_feeds bytes)) (line_feeds bytes)
 
--- Whether a byte is the first of a character. The following bytes of a character are 128 to 191
--- (RFC 3629, section 3).
+-- Returns `true` if a byte is the first of a character. The following bytes of a character are 128
+-- to 191 (RFC 3629, section 3).
 abbrev pub begins : ℕ → Bool
 begins b = nat_lt b 128 || leb 192 b
 

@@ -1,4 +1,5 @@
--- Whether each number of a tree is within the exponent limit, which is this project's own.
+-- `is_ranged` returns `true` if each number of a tree is within the exponent limit, which is this
+-- project's own.
 use Rattle.std.specs.Prelude.{Bool, true, ◌&&◌}
 use Rattle.ijson_number.specs.Num.{is_in_range}
 use Rattle.ijson_value.specs.Tree.{Tree, null, boolean, number, string, array, object, Items, no_items, item, Members, no_members, member}

@@ -10,8 +10,8 @@ use Rattle.ijson_json.specs.declared.fault.JsonError.TheVariants.{Syntax, TooDee
 abbrev pub HasNoReading : List ℕ → Type 0
 HasNoReading text = (tree : Tree) (deepest : ℕ) (ranged : Bool) → Reads text tree deepest ranged → ⊥
 
--- Holds if `text` exceeds a limit. Each reading of `text`, if any, satisfies `Past`. Some beginning
--- of `text`, completed by closing brackets only, has a reading that satisfies `First`.
+-- Holds if `text` exceeds a limit. Each reading of `text`, if any, satisfies `Past`. Some prefix of
+-- `text`, completed by closing brackets only, has a reading that satisfies `First`.
 pub record Passes (Past First : ℕ → Bool → Type 0) (text : List ℕ) : Type 0 where
   pub each : (tree : Tree) (deepest : ℕ) (ranged : Bool)
       → Reads text tree deepest ranged → Past deepest ranged
@@ -26,13 +26,13 @@ pub record Passes (Past First : ℕ → Bool → Type 0) (text : List ℕ) : Typ
   pub reading : Reads (beginning ++ closers) tree deepest ranged
   pub first : First deepest ranged
 
--- Holds if each reading of the text exceeds the nesting limit. Some beginning, completed by closing
+-- Holds if each reading of the text exceeds the nesting limit. Some prefix, completed by closing
 -- brackets, exceeds the limit by 1.
 abbrev pub PassesDepth : List ℕ → Type 0
 PassesDepth text =
     Passes (λ deepest _. max_depth < deepest) (λ deepest _. deepest ≡ max_depth + 1) text
 
--- Holds if each reading of the text has a number beyond the limit. Some beginning, completed by
+-- Holds if each reading of the text has a number beyond the limit. Some prefix, completed by
 -- closing brackets, has such a number too.
 abbrev pub PassesRange : List ℕ → Type 0
 PassesRange text = Passes (λ _ ranged. ranged ≡ false) (λ _ ranged. ranged ≡ false) text

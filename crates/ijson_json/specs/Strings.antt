@@ -4,8 +4,8 @@ use Rattle.std.specs.Prelude.{◌≡◌, ℕ, ◌+◌, ◌-◌, ◌*◌, Bool, f
 use Rattle.std.specs.Prelude.{◌++◌, Option, Some, None}
 use Rattle.std.specs.Char.{encode_utf8}
 
--- Whether a byte can be unescaped in a string: it is not a control character, `"` or a backslash.
--- This includes each byte of a multi-byte UTF-8 character.
+-- Returns `true` if a byte can be unescaped in a string: it is not a control character, `"` or a
+-- backslash. This includes each byte of a multi-byte UTF-8 character.
 abbrev pub is_unescaped : ℕ → Bool
 is_unescaped b = nat_le 32 b && (not (b == 34) && not (b == 92))
 

@@ -18,7 +18,7 @@ pub use stream_sink::StreamSink;
 pub use stream_source::StreamSource;
 use thiserror::Error;
 
-/// The error of a failed read or write. A failed call does not move any byte.
+/// The error of a failed read or write. A failed call does not read or write any byte.
 #[derive(Debug, Clone, Copy, PartialEq, Eq, Error)]
 #[error("a read or a write failed")]
 pub struct DeviceFault;
@@ -35,14 +35,14 @@ pub trait Source {
     fn failures(&self) -> u64
         ensures { result ≡ failed self.now };
 
-    /// Reads the next bytes into the beginning of `into`, and returns their number.
+    /// Reads the next bytes into the start of `into`, and returns their number.
     ///
     /// Returns 0 for a non-empty `into` only at the end of the source. `failures` must be below
     /// 2^64 - 1.
     ///
     /// # Errors
     ///
-    /// If the read fails, no byte is moved, and `failures` increases by 1.
+    /// If the read fails, no byte is read, and `failures` increases by 1.
     fn read(&mut self, into: &mut [u8]) -> Result<usize, DeviceFault>
         requires { failed self.old + 1 < 2 ^ 64 }
         ensures bound { IfOk result (λ n. n ≤ length into.new) }
@@ -70,7 +70,7 @@ pub trait Sink {
     ///
     /// # Errors
     ///
-    /// If the write fails, no byte is moved, and `failures` increases by 1.
+    /// If the write fails, no byte is written, and `failures` increases by 1.
     fn write(&mut self, from: &[u8]) -> Result<usize, DeviceFault>
         requires { failed self.old + 1 < 2 ^ 64 }
         ensures bound { IfOk result (λ n. n ≤ length from.now) }

@@ -45,7 +45,7 @@ impl From<AllocError> for JsonError {
     }
 }
 
-/// Why nothing was read at the start of a text. `left` is the number of bytes left at the fault.
+/// Why reading failed. `left` is the number of bytes left at that point.
 #[derive(Clone, Copy)]
 pub(crate) enum Fault {
     Syntax { left: usize },

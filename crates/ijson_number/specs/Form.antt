@@ -50,6 +50,8 @@ smallest_packed (suc tries) k n =
       | false ↦ smallest_packed tries (suc k) n
     ]
 
+-- The representation of `n`. A number with a decimal point is packed only with an exponent from -7
+-- (`negsuc 6`) to 7.
 abbrev pub form_of : Decimal → FormOf
 form_of n =
     elim n.point [

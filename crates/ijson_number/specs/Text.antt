@@ -1,5 +1,5 @@
--- The JSON text of a number (RFC 8259, section 6). When an exponent is written is this project's
--- own choice.
+-- The JSON text of a number. RFC 8259, section 6, leaves open when to write an exponent; the choice
+-- is this project's own.
 use Rattle.std.specs.Prelude.{ℕ, ◌+◌, ℤ, pos, negsuc, nat_abs, ◌+ℤ◌, ◌-ℤ◌, int_lt, int_le, Bool, true, false, ◌||◌}
 use Rattle.std.specs.Prelude.{List, [], ◌∷◌, ◌++◌, map, length, take, drop, replicate, nat_eq, zero, suc}
 use Rattle.ijson_number.specs.Decimal.{Decimal}
@@ -38,8 +38,9 @@ point_text ds p =
       ]
     ]
 
--- The text of the nonzero number with digits `ds` and exponent `e`, with a decimal point. Very
--- small and very large numbers are written with an exponent.
+-- The text of the nonzero number with digits `ds` and exponent `e`, with a decimal point. An
+-- exponent is written if at least 6 zeros would be between the point and the digits (`negsuc 5` is
+-- -6), or if `e` is above 20.
 abbrev pub float_text : List ℕ → ℤ → List ℕ
 float_text ds e =
     elim (int_le (pos (length ds) +ℤ e) (negsuc 5) || int_lt (pos 20) e) [

@@ -1,4 +1,6 @@
 //! Compares two numbers by value, digit by digit, and counts the digits that it reads.
+//!
+//! `ijson_table` also counts with the type `Looks`: the slots that it reads.
 ghost use Rattle.std.specs.Prelude.{◌≡◌, ◌+◌, ◌<◌, ◌^◌, ◌≢◌, ◌≤◌, pos, slice_index};
 ghost use Rattle.std.specs.Cmp.Lexicographic.{slice_cmp};
 ghost use Rattle.std.specs.Ordering.{int_cmp, nat_cmp};

@@ -34,7 +34,10 @@ pub fn take_digits(number: u64, bytes: &[u8], most: usize) -> (u64, usize)
     (longer, count)
 }
 
-/// Like `take_digits`, but reads up to 16 digits as one vector, if there are at least `FEW`.
+/// Like `take_digits`, but reads the first 16 digits, or fewer, as one vector.
+///
+/// Falls back to `take_digits` if `bytes` has fewer than 16 bytes, or if there are fewer than `FEW`
+/// digits to read.
 #[inline(always)]
 fn take_lanes(number: u64, bytes: &[u8], most: usize) -> (u64, usize)
     requires { (number + 1) * 10 ^ most ≤ 10 ^ 19 }

@@ -291,7 +291,7 @@ impl<'a> Spelling<'a> {
     }
 }
 
-/// Appends the digits to `number`, or returns `None` if the result does not fit a `u64`.
+/// Returns `number` followed by `digits` in decimal, or `None` if that does not fit a `u64`.
 fn append_digits(number: u64, digits: &[u8]) -> Option<u64>
     requires { AllDigits digits.now }
     ensures some { IfSome result (λ n. n ≡ number_from_digits_after 10 number (digits_from_text digits.now)) }

@@ -17,15 +17,16 @@ use std::str;
 /// The number of bytes in a vector.
 pub const LANES: usize = 16;
 
-/// A table of shuffle indices. From index `n` on, it moves the first `n` lanes to the end of a
-/// vector, after zeros.
+/// A table of shuffle indices. `BACK[n..n + 16]` moves the first `n` lanes to the end, and fills
+/// the front with zeros.
 static BACK: [u8; 2 * LANES] = [
     128, 128, 128, 128, 128, 128, 128, 128, 128, 128, 128, 128, 128, 128, 128, 128, 0, 1, 2, 3, 4,
     5, 6, 7, 8, 9, 10, 11, 12, 13, 14, 15,
 ];
 
-/// The weights that combine two pairs of digits to a four-digit number. The upper byte of each lane
-/// is ignored.
+/// The weights that combine two values of two digits into one value of four digits.
+///
+/// Each value is in the lower byte of a 16-bit lane. The upper byte has weight 0.
 const PAIRS: [u8; LANES] = [100, 0, 1, 0, 100, 0, 1, 0, 100, 0, 1, 0, 100, 0, 1, 0];
 
 /// The powers of ten, indexed by their exponent.
@@ -111,8 +112,8 @@ pub const SHORT_END: u64 = LANES_END / 10;
 /// The size of a minus sign, two vectors and the point between them.
 const ROOM: usize = 2 * LANES + 2;
 
-/// A table of shuffle indices. From index `n` on, it moves the lanes from `n` on to the start of a
-/// vector, before zeros.
+/// A table of shuffle indices. `FRONT[n..n + 16]` moves the lanes `n..16` to the front, and fills
+/// the rest with zeros.
 static FRONT: [u8; 2 * LANES] = [
     0, 1, 2, 3, 4, 5, 6, 7, 8, 9, 10, 11, 12, 13, 14, 15, 128, 128, 128, 128, 128, 128, 128, 128,
     128, 128, 128, 128, 128, 128, 128, 128,

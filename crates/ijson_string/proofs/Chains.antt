@@ -1,4 +1,4 @@
--- The heads and links of chains of indices.
+-- Adding a string that links to the old head of its bucket keeps the chains of indices valid.
 use Rattle.std.proofs.Common.{◌≡◌, ◌∙◌, ap, ap₂, sym, subst, below_more, refl, ℕ, zero, suc, ◌+◌, ◌-◌, ◌<◌, ◌≤◌, true, false, List, [], ◌∷◌}
 use Rattle.std.proofs.Common.{◌++◌, length, get_or, take, if◌then◌else◌, arith, length-append}
 use Rattle.std.specs.Prelude.{◌==◌}

@@ -1,4 +1,5 @@
--- The keys of a cache and the set of their strings.
+-- A lookup in the keys of a cache finds a string if and only if the set of their strings contains
+-- the string.
 use Rattle.std.proofs.Common.{◌≡◌, ◌∙◌, ap, ap₂, sym, refl, ℕ, ◌+◌, ◌<◌, true, false, cond, ◌&&◌, ◌||◌, List, [], ◌∷◌, ◌++◌, length}
 use Rattle.std.specs.Prelude.{nat_eq}
 use Rattle.std.specs.Cmp.Lexicographic.{bytes_decides, slice_cmp}

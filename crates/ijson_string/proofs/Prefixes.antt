@@ -1,4 +1,4 @@
--- Copying prefixes of a string to a buffer of zeros.
+-- A buffer that begins with UTF-8 and ends with zeros is UTF-8.
 use Rattle.std.proofs.Common.{◌≡◌, ◌-◌, ◌<◌, ◌≤◌, ◌∙◌, ℕ, zero, suc, List, ap, subst, sym, length, take, drop, replicate, get_or}
 use Rattle.std.proofs.Common.{take-append-drop, arith}
 use Rattle.std.specs.Str.{IsUtf8}

@@ -26,7 +26,7 @@ displaced n hashes p (Some i) = distance n (home_at n hashes i) p + 1
 unfoldable pub displacement : List ℕ → List (Option ℕ) → ℕ → ℕ
 displacement hashes slots p = displaced (length slots) hashes p (resident slots p)
 
--- Whether the slot's resident is index `i`.
+-- Returns `true` if the slot's resident is index `i`.
 abbrev pub holds : ℕ → Option ℕ → Bool
 holds i None = false
 holds i (Some j) = eqb i j

@@ -101,7 +101,8 @@ fn find<V, P: PairStore<V>>(store: &P, key: IString) -> Option<usize>
 /// commands are dropped.
 ///
 /// ```
-/// let commands = vec![in alloc; Command::Insert(key, 1u64), Command::Reserve(10), Command::Clear]?;
+/// let commands =
+///     vec![in alloc; Command::Insert(key, 1u64), Command::Reserve(10), Command::Clear]?;
 /// let replies = run(alloc, &mut store, commands)?; // Added, Done, Done
 /// ```
 pub fn run<V: Drop, P: PairStore<V>>(

@@ -57,9 +57,9 @@ const PRIME_POWER_3: u64 = PRIME_POWER_2.wrapping_mul(FixedHash::PRIME);
 /// The multiplier for four bytes, which are folded in one step.
 const PRIME_POWER_4: u64 = PRIME_POWER_3.wrapping_mul(FixedHash::PRIME);
 
-/// Folds four more bytes in one step.
+/// Folds the four bytes `words` into `hash` in one step.
 ///
-/// The products of the bytes do not depend on the hash, so only one multiplication waits for the
+/// The products of the bytes do not depend on `hash`, so only one multiplication waits for the
 /// previous step.
 fn add_four(hash: u64, words: [u8; 4]) -> u64
     ensures { result ≡ fold fold_word hash words }
@@ -73,7 +73,7 @@ fn add_four(hash: u64, words: [u8; 4]) -> u64
     hash.wrapping_mul(PRIME_POWER_4).wrapping_add(sum)
 }
 
-/// Folds more bytes, one at a time.
+/// Folds the bytes `words` into `hash`, one at a time.
 fn add_each(mut hash: u64, words: &[u8]) -> u64
     ensures { result ≡ fold fold_word hash words.now }
 {

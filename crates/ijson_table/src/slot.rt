@@ -25,7 +25,7 @@ pub enum Seen {
         /// The probe distance: the number of slots from the home slot to this slot, wrapping
         /// around.
         distance: usize,
-        /// Whether the key of the entry is the key sought.
+        /// `true` if the key of the entry is the key sought.
         same: bool,
     },
 }

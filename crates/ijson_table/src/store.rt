@@ -11,7 +11,7 @@ use std::alloc::{AllocError, Global};
 use std::mem;
 use thiserror::Error;
 
-/// The reason why the capacity of a store did not change.
+/// The reason why a store was not created or its capacity did not change.
 #[derive(Clone, Copy, Debug, PartialEq, Eq, Drop, Error)]
 pub enum ReserveError {
     /// An allocation failed.
@@ -67,12 +67,14 @@ impl<V: Drop> From<RefusedPair<V>> for ReserveError {
 ///
 /// # Cost
 ///
-/// Each entry of the capacity takes 16 bytes and the size of a value. A `Table` takes more per
-/// entry: nothing up to a capacity of 8, at most 4 bytes up to a capacity of 127, and at most 20
-/// bytes above.
+/// Each entry of the capacity takes 16 bytes plus the size of a value. The slots of a `Table` add,
+/// per entry:
+/// - up to a capacity of 8: nothing, because they are inline
+/// - up to a capacity of 127: at most 4 bytes
+/// - above: at most 20 bytes
 ///
-/// A table that grows or shrinks hashes each key once, or twice if many keys collide. So does a
-/// copy with a different number of slots. A copy with the same number of slots hashes no key.
+/// Growing or shrinking a table, or copying it to a different number of slots, hashes each key
+/// once, or twice if many keys collide. Copying it to the same number of slots hashes no key.
 pub trait PairStore<V>: Sized {
     /// The entries, in order.
     ghost pairs: { Self → List (List ℕ × V) };

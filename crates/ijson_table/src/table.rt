@@ -143,7 +143,8 @@ impl<V: Drop, H: KeyHash> Table<V, H> {
     ///
     /// # Cost
     ///
-    /// One probe, and a second probe only if the store grew. The key is hashed once.
+    /// One probe, and `key` is hashed once. If the table grows, each of its keys is hashed once, or
+    /// twice if many keys collide, and a second probe follows.
     pub fn insert(&mut self, key: IString, value: V) -> Result<Option<V>, RefusedPair<V>>
         ensures { Inserts self.old.store.pairs self.old.store.capacity key value result
             self.new.store.pairs self.new.store.capacity }

@@ -8,8 +8,9 @@ use Rattle.ijson_value.specs.WellFormed.{WellFormed}
 use Rattle.ijson_value.specs.declared.object.entry.Entry.{Entry}
 use Rattle.ijson_value.specs.declared.object.entry.Entry.TheVariants.{Occupied, Vacant}
 
--- Holds if the `Entry` is a view of `key` in the object `old`. An occupied entry leaves the object
--- unchanged. A vacant entry has reserved capacity for one more entry.
+-- Holds if the `Entry` is occupied and `key` exists in the object `old`, or vacant and `key` is
+-- missing. An occupied entry leaves the object unchanged. A vacant entry has reserved capacity for
+-- one more entry.
 abbrev pub FindsEntry : Store WellFormed → List ℕ → Entry → Type 0
 FindsEntry old key (Occupied o) = IsSome (at old.pairs key) × (o.object.now ≡ old)
 FindsEntry old key (Vacant v) =

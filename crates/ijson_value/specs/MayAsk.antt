@@ -14,7 +14,7 @@ module _ {F V : Type 0} (asked : F → List ℕ → V → Bool → V → F → T
       × (slice_get pairs i ≡ Some (key, v)) × asked f key v keeps w h
       × AskedFrom n h (if keeps then i + 1 else i) (if keeps then with_value pairs i w else swap_out pairs i) g j left
 
-  -- States that `may` permits each call of the closure on the entries of `pairs` from index `i` on.
+  -- Holds if `may` permits each call of the closure on the entries of `pairs` from index `i` on.
   pub record MayAskFrom (may : F → List ℕ → V → Type 0) (f : F) (i : ℕ) (pairs : List (List ℕ × V)) : Type 0 where
     pub at : (n : ℕ) (g : F) (j : ℕ) (left : List (List ℕ × V)) (key : List ℕ) (v : V)
         → AskedFrom n f i pairs g j left → slice_get left j ≡ Some (key, v) → may g key v

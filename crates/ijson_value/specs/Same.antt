@@ -12,7 +12,9 @@ Has k u no_members = ⊥
 Has k u (member j v qs) = ((k ≡ j) × (u ≡ v)) ⊎ Has k u qs
 
 abbrev mutual
-  -- Holds if the trees are the same JSON value.
+  -- Holds if the trees are the same JSON value. For objects, equal lengths and `SameIn` suffice: if
+  -- the keys are distinct, each entry of the second object then has the same key and value as an
+  -- entry of the first.
   pub Same : Tree → Tree → Type 0
   Same null null = Unit {0}
   Same (boolean a) (boolean b) = a ≡ b

@@ -1,4 +1,5 @@
--- Lemmas about finding the index of an equal document.
+-- The first document that passes the test for a tree means the same as the tree. If no document
+-- passes the test, no document means the same as the tree.
 use Rattle.std.proofs.Common.{◌≡◌, ℕ, zero, suc, Bool, true, false, List, [], ◌∷◌, ◌++◌, get_or}
 use Rattle.std.proofs.Common.{Option, Some, None, is_some, sym, ap, subst, ◌∙◌, inl, inr}
 use Rattle.std.proofs.lemmas.Bool.{or_parts}

@@ -1,4 +1,4 @@
--- Lemmas about counting the elements without an id, one element at a time.
+-- Counting the elements without an id one at a time counts all of them.
 use Rattle.std.proofs.Common.{◌≡◌, ℕ, suc, ◌+◌, ◌<◌, List, length, drop, get_or, refl, sym, subst, arith, inl, inr}
 use Rattle.ijson_value.specs.WellFormed.{WellFormed, item_trees}
 use Rattle.ijson.specs.examples.Records.{HasId, LackId}

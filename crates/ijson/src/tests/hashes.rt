@@ -26,8 +26,8 @@ pub fn are_same<T: Hash + PartialOrd>(rt: &impl Abort, alloc: Global, one: &T, o
 
 /// A hasher that compares the words given to `write_u64` with the words `wanted`.
 ///
-/// `write` and `write_i64` make the comparison fail. `write_i64` is defined, since by default it would
-/// call `write_u64`; all other methods call `write`.
+/// `write` and `write_i64` make the comparison fail. `write_i64` is defined, since by default it
+/// would call `write_u64`; all other methods call `write`.
 ///
 /// In contracts the content of a `Cell` is not part of a value, so counting words does not change
 /// the hasher.

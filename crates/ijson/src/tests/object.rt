@@ -26,7 +26,9 @@ static SHORT: [&str; 16] = [
     "?", "a", "b", "c", "d", "e", "f", "k", "n", "x", "0", "1", "2", "3", "4", "5",
 ];
 
-/// The names of the keys with the letters `A` to `K`. All but the last two own memory.
+/// The names of the keys with the letters `A` to `K`.
+///
+/// The last two keys are inline, the others boxed.
 static LONG: [&str; 11] = [
     "the_first_of_the_two",
     "the_other_of_the_two",
@@ -572,8 +574,10 @@ fn ends(rt: &impl Abort, alloc: Global, object: IObject, letters: &str) {
     end_count(alloc, 0);
 }
 
-/// Makes the call of each row of `ROWS` on one object. If the object is not in the row's state before
-/// the call, the row starts with a new object in that state.
+/// Makes the call of each row of `ROWS` on one object.
+///
+/// If the object is not in the row's state before the call, the row starts with a new object in
+/// that state.
 #[test]
 fn calls(rt: HostRuntime) {
     let alloc = rt.alloc();

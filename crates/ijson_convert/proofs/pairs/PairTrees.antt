@@ -1,4 +1,5 @@
--- Lemmas about an entry in a list of entries, and about its tree.
+-- A list of entries `done ++ p ∷ left` has the key and the tree of `p`, and is at least as deep as
+-- the value of `p`.
 use Rattle.std.proofs.Common.{◌≡◌, ◌≤◌, ℕ, List, [], ◌∷◌, ◌++◌, suc, refl, ap, sym, subst, inl, inr, arith}
 use Rattle.std.proofs.lemmas.List.{map-append}
 use Rattle.ijson_table.specs.Store.{Lacks, IsDistinct, keys_of}

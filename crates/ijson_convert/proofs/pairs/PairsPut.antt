@@ -1,4 +1,5 @@
--- Lemmas about the entries of an object that are created in order.
+-- Lemmas about creating the entries of an object one by one: the entries so far have the keys and
+-- trees of the given items, and the strings of these items are interned.
 use Rattle.std.proofs.Common.{◌≡◌, ℕ, List, [], ◌∷◌, ◌++◌, length, map, ap, ap₂, sym, subst, ◌∙◌}
 use Rattle.std.proofs.lemmas.List.{length-map, map-append}
 use Rattle.std.proofs.lemmas.Simd.{map-map}

@@ -1,4 +1,4 @@
--- Lemmas about the list of elements that an iterator yields.
+-- An iterator that began at a source of elements yields exactly these elements, in order.
 use Rattle.std.proofs.Common.{◌≡◌, ℕ, List, [], ◌∷◌, ◌++◌, length, map, Option, Some, None, refl, ap, sym, subst, ◌∙◌}
 use Rattle.std.proofs.lemmas.List.{append-nil}
 use Rattle.ijson_table.specs.Store.{IsDistinct}
@@ -28,7 +28,7 @@ module _ {S A B : Type 0} (steps : S → Option A → S → Type 0) (shows : A �
   none_left [] s t a y = refl
   none_left (b ∷ rest) s t a y = absurd (a.0 t y)
 
-  -- Lemmas about an iterator that began at a source of the elements `all` and has yielded `given`.
+  -- In this module, an iterator began at a source of the elements `all` and has yielded `given`.
   module _ {source s : S} (is : s ≡ source) (given : List A) (all : List B) (t u : S) (a : AlwaysYields steps shows source all)
       (y : Yields steps s given t) where
     left : (left : List B) × (all ≡ map shows given ++ left) × AlwaysYields steps shows t left

@@ -1,4 +1,5 @@
--- Lemmas about reading members into a hash map, whose order is not the order of the members.
+-- After each member that is read into a hash map, the map means the same as the members read so
+-- far. The order of the map may differ from the order of the members.
 use Rattle.std.proofs.Common.{◌≡◌, ◌++◌, ℕ, suc, List, [], ◌∷◌, length, cond, refl, ap, sym, subst, ◌∙◌, inl, inr, false, arith, IsPermutation}
 use mathlib.Core.Bool.{true≢false}
 use Rattle.std.specs.HashMap.{HashMap, PutsEntry, get, values}

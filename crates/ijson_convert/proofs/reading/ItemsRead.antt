@@ -1,4 +1,5 @@
--- Lemmas about reading elements in order.
+-- A list of trees is accepted if each tree is accepted, and otherwise rejected with the error of
+-- the first rejected tree.
 use Rattle.std.proofs.Common.{◌≡◌, ◌<◌, ◌+◌, ℕ, List, [], ◌∷◌, ◌++◌, length, take, drop, map, get_or, ap, sym, subst, ◌∙◌, inl, inr}
 use Rattle.std.proofs.lemmas.List.{append_assoc, map-append, map_more, take-append-drop}
 use Rattle.ijson_value.specs.Same.{Same, SameEach}

@@ -1,4 +1,5 @@
--- Lemmas about reading members into a map, in order.
+-- Reading the members of an object into a map, in order, results in a map that means the same as
+-- the object, or in the error of the first rejected member.
 use Rattle.std.proofs.Common.{◌≡◌, ℕ, suc, List, [], ◌∷◌, ◌++◌, map, refl, ap, sym, subst, ◌∙◌}
 use Rattle.std.specs.BTreeMap.{insert_entry}
 use Rattle.std.specs.Ordering.{match_ordering}

@@ -1,4 +1,5 @@
--- Lemmas about `serde_json` values that mean the same as JSON trees, for arrays and objects.
+-- A `serde_json` array or object means an array or object tree if its parts mean the parts of the
+-- tree. If no `serde_json` value means some part, no `serde_json` value means the tree.
 use Rattle.std.proofs.Common.{◌≡◌, ◌≢◌, ℕ, List, [], ◌∷◌, ◌++◌, suc, refl, ap, sym, subst, ◌∙◌, inl, inr}
 use Rattle.std.specs.declared.cmp.Ordering.TheVariants.{Less, Equal, Greater}
 use Rattle.std.specs.Cmp.Lexicographic.{slice_cmp}

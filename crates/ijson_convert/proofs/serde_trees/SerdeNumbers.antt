@@ -1,4 +1,5 @@
--- Lemmas about the numbers of `serde_json`.
+-- A `serde_json` number that is a `u64` or an `i64` means each JSON number that has its value.
+-- Other `serde_json` numbers do not have a tree.
 use Rattle.std.proofs.Common.{◌≡◌, ◌<◌, ◌^◌, ◌∙◌, ℕ, Some, None, refl, sym, ap, subst, arith}
 use Rattle.std.specs.Prelude.{ℤ, pos, negsuc, FitsSigned}
 use Rattle.std.specs.declared.cmp.Ordering.TheVariants.{Equal}

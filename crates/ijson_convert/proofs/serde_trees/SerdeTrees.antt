@@ -1,4 +1,5 @@
--- Lemmas about the JSON trees of `serde_json` values.
+-- The JSON tree of a `serde_json` value has the same strings, in the same order. An array or object
+-- has a tree only if each of its values has a tree.
 use Rattle.std.proofs.Common.{◌≡◌, ℕ, List, map, [], ◌∷◌, ◌++◌, refl, ap, ap₂, sym, subst}
 use Rattle.std.proofs.Common.{◌∙◌}
 use Rattle.std.specs.Prelude.{string_bytes, string_cmp}

@@ -1,4 +1,5 @@
--- The members of a merged object, made from the joined keys of the target and of the patch.
+-- The object made from the joined keys of the target and of the patch is the target merged with the
+-- patch.
 use Rattle.std.proofs.Common.{◌≡◌, ℕ, suc, ◌≤◌, inl, inr, arith, List, [], ◌∷◌, ◌++◌, length, drop, get_or, Option, Some, None, true, false}
 use Rattle.std.proofs.Common.{refl, sym, ap, subst, ◌∙◌, cond, map, append_assoc, Bor}
 use Rattle.std.specs.Option.{unwrap_or}
@@ -182,8 +183,8 @@ module _ (pairs changes : List (List ℕ × WellFormed)) (distinct : IsDistinct 
       (omega (arith, as_many pairs))
       ∙ ap (λ ms. merged_into ms (pair_trees changes)) (made-unchanged pairs))
 
-  -- If entries have the keys and trees made from the joined keys, their object is the target merged
-  -- with the patch.
+  -- If `items` stores the members made from the joined keys, the object of `items` is the target
+  -- merged with the patch.
   pub built : (items : List (List ℕ × WellFormed)) → IsDistinct (keys_of changes)
       → map pair_tree items ≡ made (joined pairs changes) (old_trees pairs)
       → object_tree (put_each [] items) ≡ merged (object_tree pairs) (object_tree changes)

@@ -1,4 +1,5 @@
--- Lemmas about applying one member of a merge patch to entries.
+-- Applying the first member of a merge patch, and then merging the rest of the patch, has the same
+-- result as merging the complete patch.
 use Rattle.std.proofs.Common.{◌≡◌, ◌≢◌, ℕ, inl, inr, List, [], ◌∷◌, Option, Some, None, refl, sym, ap, subst, ◌∙◌, ◌+◌}
 use Rattle.std.proofs.Common.{arith, suc}
 use Rattle.std.specs.Option.{unwrap_or}

@@ -1,4 +1,4 @@
--- Lemmas about optional results.
+-- Lemmas about `IsSome` and `OnSome`: when they hold, and what follows from them.
 use Rattle.std.proofs.Common.{◌≡◌, Option, Some, None, refl, sym, MutBor}
 use Rattle.std.specs.Prelude.{OnSome, IsSome, option_map}
 use Rattle.ijson_value.specs.Tree.{Tree}

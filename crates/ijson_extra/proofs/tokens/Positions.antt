@@ -1,4 +1,5 @@
--- Lemmas about the array indices that tokens denote.
+-- A token denotes the same array index as its meaning. If the token can be parsed as a number, this
+-- number is the index.
 use Rattle.std.proofs.Common.{◌≡◌, inl, inr, ℕ, ◌<◌, ◌≤◌, ◌^◌, Result, Ok, Err, not, Bool, true, false, List, [], ◌∷◌, eqb, length, refl}
 use Rattle.std.proofs.Common.{sym, ap, ◌∙◌, arith, Option, Some, None, option_map}
 use mathlib.Core.Bool.{true≢false}

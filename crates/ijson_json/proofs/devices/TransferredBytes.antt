@@ -1,4 +1,5 @@
--- Lemmas about the known bytes of a device after several reads or writes.
+-- Reading or writing `i` bytes of a device, and then `n` more, reads or writes the first `i + n`
+-- bytes.
 use Rattle.std.proofs.lemmas.List.{take_rest}
 use Rattle.std.proofs.Common.{subst, arith, take, drop, length, ◌+◌, ◌<◌}
 use Rattle.std.proofs.Common.{take-append-drop, length-drop, take-add, ◌-◌, ◌≡◌, ◌∙◌, ap, sym, refl, ℕ, List, [], ◌++◌, Some, None}

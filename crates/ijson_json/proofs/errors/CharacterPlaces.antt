@@ -1,4 +1,5 @@
--- Lemmas about positions inside a string: characters follow, up to the closing quote.
+-- If a character may begin at a position of a JSON text, the rest of a string is there: characters,
+-- then the closing quote.
 use Rattle.std.proofs.Common.{◌≡◌, ℕ, Bool, false, List, [], ◌∷◌, ◌++◌, refl, sym, ap, subst, ◌∙◌, append_assoc, append-nil, arith, inl, inr}
 use Rattle.std.specs.Prelude.{◌⊎◌, ◌==◌, not, IsTrue, Some}
 use Rattle.std.proofs.lemmas.Bool.{ne_eqb}

@@ -1,5 +1,5 @@
--- Lemmas: a value and closing brackets complete the beginning of a JSON text, without increasing
--- the maximum depth.
+-- Lemmas: a value and closing brackets complete a prefix of a JSON text, without increasing the
+-- maximum depth.
 use Rattle.std.proofs.Common.{◌≡◌, ℕ, suc, ◌+◌, ◌-◌, ◌≤◌, true, false, max, List, [], ◌∷◌, ◌++◌, refl, sym, ap, subst, ◌∙◌, append_assoc, append-nil, arith, inl, inr}
 use Rattle.std.specs.Prelude.{◌⊎◌}
 use Rattle.ijson_value.specs.Tree.{Tree, depth}
@@ -99,7 +99,7 @@ pub record Closed (opened : ℕ) (before : List ℕ) (bound : ℕ) (u : Tree) (t
   pub deep : depth tree ≤ max bound (opened + depth u)
   pub ranged : is_ranged tree ≡ true → is_ranged u ≡ true
 
--- The text of an array is its beginning, the value `text`, then all closing brackets.
+-- The text of an array is a prefix of the array, the value `text`, then all closing brackets.
 array_text : (gap items inside text closers : List ℕ) → gap ++ 91 ∷ ((items ++ (inside ++ (text ++ closers))) ++ 93 ∷ [])
     ≡ (gap ++ 91 ∷ (items ++ inside)) ++ (text ++ (closers ++ 93 ∷ []))
 array_text gap items inside text closers = simp append_assoc
@@ -134,7 +134,7 @@ closed_in before inside bound d bracket u t text whole b c s e low high deep ran
 -- If a value may begin after `before`, the value `u` and closing brackets extend `before` to a JSON
 -- text.
 --
--- `before` must be the beginning of a value of depth at most `bound`.
+-- `before` must be a prefix of a value of depth at most `bound`.
 pub closed : {opened : ℕ} {before : List ℕ} → Inside IsSpace opened before → (behind : List ℕ) (bound : ℕ)
     → (Opening 93 (before ++ behind) → HasValue (before ++ behind) bound) → (u : Tree) (text : List ℕ) → IsValue u text
     → Closed opened before bound u text

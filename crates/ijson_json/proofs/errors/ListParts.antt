@@ -1,4 +1,5 @@
--- Lemmas about the remaining elements of a list, after its first elements.
+-- If a container begins with its bracket and elements with a comma after each, the remaining
+-- elements follow.
 use Rattle.std.proofs.Common.{◌≡◌, ℕ, suc, ◌≤◌, Bool, true, false, List, [], ◌∷◌, ◌++◌, refl, sym, ◌∙◌, append_assoc, arith, ap}
 use Rattle.std.specs.Prelude.{◌&&◌, ◌==◌}
 use Rattle.ijson_value.specs.Tree.{Tree, depth}

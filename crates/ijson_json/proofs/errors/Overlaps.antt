@@ -1,4 +1,4 @@
--- Lemmas about two beginnings of one text.
+-- Lemmas about two prefixes of one text: they are equal, or one is a proper prefix of the other.
 use Rattle.std.proofs.Common.{◌≡◌, ℕ, Bool, true, List, [], ◌∷◌, ◌++◌, refl, sym, ap₂, subst, inl, inr}
 use Rattle.std.specs.Prelude.{◌⊎◌}
 use Rattle.ijson_json.proofs.scanning.Prefixes.{Run, heads, tails}

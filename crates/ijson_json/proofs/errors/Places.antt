@@ -1,4 +1,5 @@
--- Lemmas about the value at a position in a JSON text.
+-- If a value may begin at a position of a JSON text, and neither white space nor `]` is there, a
+-- value inside the open containers begins there.
 use Rattle.std.proofs.Common.{◌≡◌, ℕ, ◌+◌, ◌≤◌, true, List, [], ◌∷◌, ◌++◌, refl, sym, ap, ◌∙◌, append_assoc, append-nil, arith}
 use Rattle.std.specs.Prelude.{◌==◌}
 use Rattle.ijson_value.specs.Tree.{Tree, depth}

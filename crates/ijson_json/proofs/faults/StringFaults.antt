@@ -1,4 +1,5 @@
--- Lemmas about a string, of a value or a key, whose content stops.
+-- If neither a character nor the closing quote follows in a string, of a value or a key, the text
+-- has a syntax error there.
 use Rattle.std.proofs.Common.{◌≡◌, ℕ, true, false, List, [], ◌∷◌, ◌++◌, length, eqb, refl, sym, ap, subst, ◌∙◌, append_assoc}
 use Rattle.std.specs.Prelude.{◌≢◌}
 use Rattle.std.proofs.lemmas.Bool.{eqb-true}

@@ -62,7 +62,7 @@ closers_other [] h = tt
 closers_other (b ∷ text) (inl e, h) = (rw e refl, closers_other text h)
 closers_other (b ∷ text) (inr e, h) = (rw e refl, closers_other text h)
 
--- ---- the beginning of a number or a literal
+-- ---- a prefix of a number or a literal
 
 -- `text` begins with `d ∷ front`, which `more` would extend to a number or a literal.
 --

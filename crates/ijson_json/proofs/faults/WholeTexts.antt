@@ -1,4 +1,5 @@
--- Lemmas about the result of reading a whole text.
+-- A text whose value was read is accepted if only white space follows, and otherwise has a syntax
+-- error after the value. A fault of the value is the error of the text.
 use Rattle.std.proofs.Common.{◌≡◌, ℕ, ◌≤◌, true, List, [], ◌∷◌, ◌++◌, length, Result, Ok, Err, refl, sym, ap, subst, ◌∙◌}
 use Rattle.std.proofs.Common.{append_assoc, append-nil, arith}
 use Rattle.std.specs.Prelude.{IfErr, MatchResult}

@@ -1,4 +1,5 @@
--- Lemmas about appending bytes inside open containers.
+-- Appending bytes to a text with open containers appends them to the part inside the innermost
+-- container.
 use Rattle.std.proofs.Common.{ℕ, suc, List, ◌++◌, subst, append_assoc}
 use Rattle.ijson_json.specs.Inside.{Inside, here, in_array, in_object}
 

@@ -1,4 +1,4 @@
--- Lemmas about reading arrays and objects, element by element.
+-- Arrays and objects are read like any `Listing`: arrays by elements, objects by members.
 use Rattle.std.proofs.Common.{◌≡◌, ℕ, suc, ◌+◌, Bool, List, [], ◌∷◌, ◌++◌, refl, sym, ap, ap₂, subst, ◌∙◌, arith, inl, inr}
 use Rattle.std.specs.Prelude.{◌&&◌}
 use Rattle.ijson_table.specs.Store.{put, put_each}

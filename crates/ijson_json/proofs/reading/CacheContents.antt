@@ -1,4 +1,4 @@
--- Lemmas about the strings in the cache while a text is read.
+-- Reading a text adds only strings of the text to the cache, and keeps the strings in the cache.
 use Rattle.std.proofs.Common.{◌≡◌, ℕ, Bool, true, false, List, [], ◌∷◌, ◌++◌, length, refl, sym, ap, ◌∙◌, append_assoc, inl}
 use Rattle.std.proofs.Common.{inr}
 use Rattle.std.specs.Prelude.{◌||◌, ◌&&◌, ltb, if◌then◌else◌}

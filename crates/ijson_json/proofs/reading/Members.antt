@@ -1,4 +1,4 @@
--- Lemmas about a member of an object: a key, `:` and a value.
+-- If a key, `:` and a value were read in order, a member of an object was read.
 use Rattle.std.proofs.Common.{◌≡◌, ℕ, List, ◌∷◌, ◌++◌, refl, sym, ◌∙◌, append_assoc}
 use Rattle.ijson_value.specs.Tree.{Tree}
 use Rattle.ijson_json.specs.Grammar.{is_space, IsValue}

@@ -1,4 +1,5 @@
--- Lemmas about the leading number of a text.
+-- If no byte of a number follows the leading number of a text, the number is the longest prefix
+-- that begins a number.
 use Rattle.std.proofs.Common.{◌≡◌, ℕ, ◌<◌, ◌≤◌, true, false, List, [], ◌∷◌, ◌++◌, get_or, length, take, drop, sym, ap}
 use Rattle.std.proofs.Common.{subst, ◌∙◌, arith, inl, inr}
 use Rattle.std.specs.Prelude.{IsTrue}

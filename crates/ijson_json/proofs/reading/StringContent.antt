@@ -1,4 +1,5 @@
--- Lemmas about reading the content of a string, run by run and escape by escape.
+-- Reading a string run by run and escape by escape appends the bytes of each character to the
+-- content.
 use Rattle.std.proofs.Common.{◌≡◌, ℕ, true, false, List, [], ◌∷◌, ◌++◌, length, refl, sym, ap, ◌∙◌, append_assoc, eqb, inr}
 use Rattle.std.proofs.lemmas.Bool.{eqb-true}
 use Rattle.std.specs.Prelude.{◌≢◌}

@@ -1,4 +1,4 @@
--- Lemmas about reading the literals `null`, `true` and `false`.
+-- Each of the literals `null`, `true` and `false` is read as its tree, whatever text follows.
 use Rattle.std.proofs.Common.{◌≡◌, ℕ, ◌≤◌, Bool, true, false, List, ◌∷◌, ◌++◌, refl, ap, ◌∙◌, arith, inl, inr}
 use Rattle.std.specs.Prelude.{Result, MatchResult}
 use Rattle.std.specs.Borrow.{Bor}

@@ -1,4 +1,5 @@
--- Lemmas about appending a run in blocks of 16 bytes and truncating the last block.
+-- Appending a run in blocks of 16 bytes, and truncating the last block, appends exactly the bytes
+-- of the run.
 use Rattle.std.proofs.Common.{◌≡◌, ℕ, ◌+◌, ◌-◌, ◌≤◌, List, ◌++◌, length, length-append, take, drop, sym, ap, ◌∙◌, arith, append_assoc}
 use Rattle.std.proofs.Math.Seq.{take-add, take-append-add}
 use Rattle.std.proofs.lemmas.List.{length-take-le, take_at}

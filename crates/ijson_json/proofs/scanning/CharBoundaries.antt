@@ -1,4 +1,4 @@
--- Lemmas about character boundaries: the indices at which a text can be split.
+-- The index after ASCII bytes is a character boundary, at which a text can be split.
 use Rattle.std.proofs.Common.{◌≡◌, ℕ, zero, suc, ◌+◌, ◌<◌, ◌≤◌, List, ◌∷◌, ◌++◌, length, length-append, length-drop, get_or, drop, sym, ap}
 use Rattle.std.proofs.Common.{◌∙◌, arith, add-zero}
 use Rattle.std.specs.Str.{IsUtf8, IsCharBoundary}

@@ -1,4 +1,4 @@
--- Lemmas about the longest common prefix of two texts.
+-- The number of equal leading bytes of two texts is the length of their longest common prefix.
 use Rattle.std.proofs.Common.{◌≡◌, ℕ, suc, ◌+◌, Bool, true, false, cond, List, [], ◌∷◌, length, take, refl, sym, ap, ap₂, ◌∙◌, arith}
 use Rattle.std.specs.Prelude.{◌==◌}
 use Rattle.std.specs.List.{prefix_len, zip}

@@ -1,4 +1,5 @@
--- Lemmas about the mask of a vector whose lanes are the results of a test.
+-- If the high bit of each lane of a vector is the result of a test, the mask of the vector is the
+-- mask of the results.
 use Rattle.std.proofs.Common.{◌≡◌, ℕ, ◌%◌, ◌^◌, ◌≤◌, Bool, cond, List, [], ◌∷◌, map, length, refl, ap, ap₂, ◌∙◌, arith}
 use Rattle.std.proofs.lemmas.List.{length-map}
 use Rattle.std.proofs.lemmas.Simd.{mask_l-mod}

@@ -1,4 +1,5 @@
--- Lemmas about the line and character counts after one more byte.
+-- A line feed increases the line count by 1 and resets the character count. Any other byte keeps
+-- the line count.
 use Rattle.std.proofs.Common.{◌≡◌, ◌≢◌, ◌+◌, ◌++◌, ◌<◌, ◌≤◌, ℕ, suc, Bool, List, [], ◌∷◌, inr, true, false, cond}
 use Rattle.std.proofs.Common.{length, take, length-take, refl, sym, ap, ◌∙◌, arith, append_assoc}
 use Rattle.std.specs.Prelude.{nat_eq}

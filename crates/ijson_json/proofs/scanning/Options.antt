@@ -1,4 +1,4 @@
--- Lemmas about the two cases of an `Option`.
+-- `MatchOption o P Q` still holds if `P` and `Q` are weakened.
 use Rattle.std.specs.Prelude.{Option, Some, None, MatchOption}
 
 -- If `P` implies `P'` and `Q` implies `Q'`, `MatchOption o P Q` implies `MatchOption o P' Q'`.

@@ -1,4 +1,5 @@
--- Lemmas about leading runs of bytes that pass a test.
+-- If a text is a run of bytes that pass a test and a rest that ends the run, the run and the rest
+-- are unique.
 use Rattle.std.proofs.Common.{◌≡◌, ℕ, Bool, true, false, List, [], ◌∷◌, ◌++◌, refl, sym, ap, ◌∙◌, eqb, eq-eqb}
 use Rattle.std.specs.Prelude.{IsTrue, ◌==◌}
 use Rattle.std.specs.List.{AllByRecursion}

@@ -1,4 +1,4 @@
--- Lemmas about texts that begin with the same byte.
+-- If two texts begin with the same byte, each test of the first byte has the same result for both.
 use Rattle.std.proofs.Common.{ℕ, Bool, List, [], ◌∷◌, ◌++◌, refl}
 use Rattle.ijson_value.specs.Tree.{Tree, number}
 use Rattle.ijson_number.specs.NumberBytes.{is_number_byte}

@@ -1,4 +1,5 @@
--- Lemmas about runs of unescaped bytes in a string.
+-- The longest run of unescaped bytes ends at the first byte that must be escaped, or at the end.
+-- This index is a character boundary.
 use Rattle.std.proofs.Common.{◌≡◌, ℕ, ◌+◌, ◌-◌, inl, inr, ◌<◌, ◌≤◌, Bool, true, false, cond, List, [], ◌∷◌, length, take, drop, get_or, refl, sym, ap, arith}
 use Rattle.std.proofs.Common.{add-zero, ltb, ◌∙◌}
 use Rattle.std.specs.Prelude.{Option, IsTrue, not, unwrap_or, Some, None}

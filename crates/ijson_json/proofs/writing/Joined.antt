@@ -1,4 +1,5 @@
--- Lemmas about writing the elements of an array and the members of an object one at a time.
+-- Writing the elements of an array or the members of an object one at a time, with commas between
+-- them, writes the text between the brackets.
 use Rattle.std.proofs.Common.{◌≡◌, Bool, true, false, ℕ, List, [], ◌∷◌, ◌++◌, map, refl, ap, sym, ◌∙◌, append-nil}
 use Rattle.ijson_value.specs.Tree.{Tree}
 use Rattle.ijson_value.specs.WellFormed.{WellFormed, item_trees, pair_trees}

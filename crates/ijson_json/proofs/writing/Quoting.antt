@@ -1,4 +1,5 @@
--- Lemmas about writing a string with its escapes.
+-- A run of unescaped bytes is written unchanged. If writing a string fails, a proper prefix of the
+-- string with its escapes was written.
 use Rattle.std.proofs.Common.{◌≡◌, ℕ, ◌<◌, ◌/◌, ◌%◌, false, cond, List, [], ◌∷◌, ◌++◌, Result}
 use Rattle.std.proofs.Common.{Ok, Err, refl, sym, ap, ap₂, ◌∙◌, append_assoc, arith}
 use Rattle.std.specs.Prelude.{IsTrue, ◌==◌, ◌≢◌, nat_lt, OnOk, OnErr, Some, is_ok, if◌then◌else◌}

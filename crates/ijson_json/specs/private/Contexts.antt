@@ -37,7 +37,7 @@ pub record Context (E : Type 0) (Is : E → List ℕ → Type 0) (inner : E → 
 abbrev pub ValueContext : ℕ → List ℕ → List ℕ → Type 0
 ValueContext opened before text = Context Tree (λ t value. IsValue t value) (λ t. t) IsValuePlace opened before text
 
--- Holds if `text` is the beginning of an object, up to where a member may begin.
+-- Holds if `text` is a prefix of an object that ends where a member may begin.
 abbrev pub IsOpenObject : List ℕ → Type 0
 IsOpenObject text =
     (gap members space : List ℕ) × IsSpace gap × EachWithComma IsMember members × IsSpace space

@@ -31,7 +31,7 @@ fn read_word<'a>(text: &'a str, word: &str, value: IValue) -> Result<(IValue, &'
 
 /// Reads the leading value, which is not a container and begins with the byte `first`.
 ///
-/// `content` is a buffer for the content of a string with an escape.
+/// `content` is a buffer for the decoded content of a string with an escape.
 #[inline(always)]
 pub(crate) fn read_scalar<'a, S: BuildHasher>(
     alloc: Global,

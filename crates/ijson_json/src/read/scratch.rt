@@ -25,7 +25,7 @@ pub(crate) struct Scratch {
     pub(crate) values: Vec<IValue>,
     /// A stack of the members of the open objects, the innermost object on top.
     pub(crate) members: Vec<(IString, IValue)>,
-    /// A buffer for the content of a string with an escape.
+    /// A buffer for the decoded content of a string with an escape.
     pub(crate) content: String,
 }
 

@@ -54,9 +54,10 @@ pub(crate) fn read_value<'a, S: BuildHasher>(
 
 /// Reads the leading array or object, which begins with the bracket `first`.
 ///
-/// Fails if the maximum number of containers is open. The function is inlined, but its callees are
-/// not. A scalar is therefore returned without a memory slot, and the return slot of a container is
-/// zeroed only for containers.
+/// Fails if the maximum number of containers is open.
+///
+/// Inlined, but `read_array` and `read_object` are not: their return slot is zeroed only if the
+/// value is a container, and a scalar is returned without such a slot.
 #[cycle(read)]
 #[inline(always)]
 fn read_container<'a, S: BuildHasher>(

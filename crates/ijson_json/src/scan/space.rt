@@ -1,7 +1,8 @@
 //! White space.
 //!
 //! Compact JSON has at most one byte of white space in a row. Indented JSON mostly has a line feed
-//! and an indent. So the first two bytes are tested individually, and further bytes 16 at a time.
+//! and an indent. Therefore, the first two bytes are tested individually, and further bytes 16 at a
+//! time.
 
 ghost use Rattle.std.specs.Prelude.{◌≡◌, ◌<◌, ◌∷◌, ℕ, IsTrue, length, map, not, MatchOption};
 ghost use Rattle.std.specs.List.{prefix_len};

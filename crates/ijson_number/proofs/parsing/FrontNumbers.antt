@@ -29,7 +29,8 @@ module _ (text : List ℕ) (f : Front) (rest : List ℕ) (m : IsMantissa text f 
     point = f.significand.point || written;
   }
 
-  -- The mantissa followed by an optional exponent spells the parts of both.
+  -- If `exponent_text` spells the optional exponent `z`, the mantissa followed by `exponent_text`
+  -- spells the mantissa's parts with the exponent `z`.
   spelled : (exponent_text : List ℕ) (z : ℤ) (written : Bool) → IsExponent exponent_text z written
       → IsSpelled (front ++ exponent_text) (parts z written)
   spelled exponent_text z written is = record {

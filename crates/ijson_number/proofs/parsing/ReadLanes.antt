@@ -56,16 +56,16 @@ abbrev Moved : (table : List ℕ) (to : List ℕ → ℕ → List ℕ) → List 
 Moved table to xs n = T (are_positions (positions table n)) × (length (positions table n) ≡ 16)
     × (swz_l w8 16 xs 0 (positions table n) ≡ to xs n)
 
--- The first `n` lanes of `xs`, moved to the end of a vector, after zeros.
+-- The first `n` lanes of `xs`, moved to the end of a vector that zeros fill.
 abbrev to_end : List ℕ → ℕ → List ℕ
 to_end xs n = replicate (16 - n) 0 ++ take n xs
 
--- The lanes of `xs` from index `n` on, moved to the start of a vector, before zeros.
+-- The lanes of `xs` from index `n` on, moved to the front of a vector that zeros fill.
 abbrev to_front : List ℕ → ℕ → List ℕ
 to_front xs n = drop n xs ++ replicate n 0
 
 -- Holds if `BACK` moves the first `n` lanes to the end, and `FRONT` moves the lanes from `n` on to
--- the start.
+-- the front.
 abbrev Both : List ℕ → ℕ → Type 0
 Both xs n = Moved BACK to_end xs n × Moved FRONT to_front xs n
 

@@ -1,4 +1,5 @@
--- The bytes of a JSON number.
+-- A JSON number begins with a digit or a minus sign, and each of its bytes satisfies
+-- `is_number_byte`.
 use Rattle.ijson_number.proofs.Common.{◌≡◌, ℕ, ◌≤◌, Bool, List, [], ◌∷◌, ◌++◌, refl, ◌∙◌, inl, inr, arith, append_assoc, ℤ, IsTrue, ◌||◌, ◌==◌}
 use Rattle.ijson_number.proofs.Common.{AllByRecursion, le-leb, Decimal, AllDigits, IsMinus, IsWhole, IsFraction, IsSigned, IsExponent, Spells, ap₂}
 use Rattle.ijson_number.specs.NumberBytes.{is_digit, is_number_byte}

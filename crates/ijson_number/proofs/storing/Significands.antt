@@ -1,4 +1,5 @@
--- Significands: the numbers that they denote, and the representations of these numbers.
+-- Stripping trailing zeros of a significand keeps the number that it denotes. The magnitude and the
+-- exponent decide how this number is represented.
 use Rattle.ijson_number.proofs.Common.{◌≡◌, ◌≢◌, ◌⊎◌, ℕ, zero, suc, ◌+◌, ◌-◌, ◌*◌, ◌%◌, ◌^◌, ◌<◌, ◌≤◌, Bool, true, false, List, [], ◌++◌, length}
 use Rattle.ijson_number.proofs.Common.{refl, ap, sym, subst, ◌∙◌, inl, inr, arith, pow-add, ℤ, pos, negsuc, neg_ℤ, nat_abs, int_le, ◌≤ℤ◌, ◌<ℤ◌, ◌+ℤ◌}
 use Rattle.ijson_number.proofs.Common.{◌-ℤ◌, ◌*ℤ◌, ◌&&◌, FitsSigned, IfOk, Result, w64, mul-le-mul_left, mul_assoc, and_from, cases_eq, ints}

@@ -1,4 +1,5 @@
--- `last_digits`: the last digits of a number, with leading zeros.
+-- The last `count + scale` digits of `n` are the last `count` digits of `n / 10 ^ scale`, followed
+-- by the last `scale` digits of `n`.
 use Rattle.ijson_number.proofs.Common.{◌≡◌, ℕ, zero, suc, ◌+◌, ◌-◌, ◌*◌, ◌/◌, ◌%◌, ◌^◌, ◌<◌, ◌≤◌, List, [], ◌∷◌, ◌++◌, length, refl, ap, sym, ◌∙◌}
 use Rattle.ijson_number.proofs.Common.{arith, append_assoc, inl, inr, pow-succ', mul-le-mul_right, mul_comm, cases_lt, decimal_digit}
 use Rattle.ijson_number.proofs.Common.{decimal_step_wide, append-nil, length_push, replicate_more, decimal, zeros_text, ten_pos, min, get_or}

@@ -1,4 +1,5 @@
--- The texts of numbers, assembled from their sign, whole part and fraction.
+-- Assembling the sign, the whole part, the fraction and the exponent of a number yields the text of
+-- the number.
 use Rattle.ijson_number.proofs.Common.{◌≡◌, ◌≢◌, ℕ, ◌+◌, ◌-◌, ◌*◌, ◌/◌, ◌%◌, ◌^◌, ◌<◌, ◌≤◌, Bool, true, false, List, [], ◌∷◌, ◌++◌, length, refl, ap}
 use Rattle.ijson_number.proofs.Common.{sym, ◌∙◌, arith, inl, inr, ℤ, pos, negsuc, nat_abs, int_le, int_lt, ◌+ℤ◌, ◌-ℤ◌, nat_eq, not, cases_lt, or_from}
 use Rattle.ijson_number.proofs.Common.{decimal_digit, decimal_nonempty, ints, length-digits_of-le, length-append, length-map, take_at, drop_at}

@@ -61,7 +61,7 @@ ten_to_20 : parts 2560000000000000184 ≡ (pos 10000000000000000, (pos 4, true))
 unfolding parts
 ten_to_20 = refl
 
--- The word 2560000000000000232 stores 1e23, which has the maximum exponent 7.
+-- The word 2560000000000000232 stores 1e23, as the mantissa 10^16 and the maximum exponent, 7.
 ten_to_23 : parts 2560000000000000232 ≡ (pos 10000000000000000, (pos 7, true))
 unfolding parts
 ten_to_23 = refl
@@ -71,7 +71,7 @@ least_point : parts 9223372036854775928 ≡ (negsuc 36028797018963967, (pos 0, t
 unfolding parts
 least_point = refl
 
--- The word 264 stores 0.0000001, which has the minimum exponent -7.
+-- The word 264 stores 0.0000001, as the mantissa 1 and the minimum exponent, -7.
 ten_to_minus_7 : parts 264 ≡ (pos 1, (negsuc 6, true))
 unfolding parts
 ten_to_minus_7 = refl

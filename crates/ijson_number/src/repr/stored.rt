@@ -304,10 +304,11 @@ pub enum Stored {
 impl Stored {
     ghost use Rattle.ijson_number.specs.private.Stored.{IsList, IsOtherWord, stored_form};
 
-    /// Returns `Some(true)` if both numbers are stored as the same word, and `Some(false)` if they
-    /// are stored as different words of one kind that agree on the decimal point.
+    /// Compares two numbers by their words, without reading digits.
     ///
-    /// Returns `None` for all other pairs of numbers: their digits decide.
+    /// Returns `Some(true)` if both have the same variant and the same word, and `Some(false)` if
+    /// they have the same variant and decimal point, but different words. Otherwise returns `None`,
+    /// and the caller has to compare the digits. The tag bits of a packed word are ignored.
     pub fn eq_by_bits(&self, other: &Stored) -> Option<bool>
         ensures same { IfSome result (λ is_same. IsTrue is_same → stored_form self.now ≡ stored_form other.now) }
         ensures different { IfSome result (λ is_same. IsFalse is_same → IsOtherWord self.now other.now) }

@@ -15,7 +15,7 @@ pub record Table : Type 0 where
 abbrev pub no_table : Table
 no_table = record { keys = []; buckets = 0; followers = no_followers }
 
--- The number of buckets before a string is added to `texts` strings: `buckets` if there are fewer
--- than four strings per bucket, otherwise twice as many, at least 16.
+-- The number of buckets that a table of `texts` strings and `buckets` buckets needs before a string
+-- is added: `buckets` if `texts < 4 * buckets`, otherwise `2 * buckets`, but at least 16.
 abbrev pub buckets_for : ℕ → ℕ → ℕ
 buckets_for texts buckets = if nat_lt texts (4 * buckets) then buckets else max 16 (2 * buckets)

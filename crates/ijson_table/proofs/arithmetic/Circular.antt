@@ -1,4 +1,5 @@
--- Arithmetic on `n` slots that wrap around.
+-- Among `n` slots that wrap around, the distance from `p` to the slot `k < n` slots after `p` is
+-- `k`.
 use Rattle.std.proofs.Common.{◌≡◌, ℕ, ◌+◌, ◌-◌, ◌<◌, ◌≤◌, ◌⊎◌, arith}
 use Rattle.std.proofs.lemmas.Bool.Decides.{nat_tests}
 use Rattle.ijson_table.specs.Crowd.{distance}

@@ -1,4 +1,5 @@
--- Steps of a fold modulo `n`, which multiply by `p`. Four steps can be done in one.
+-- Four steps of a fold modulo `n`, which multiply by `p`, equal one step that multiplies by
+-- `p ^ 4`.
 use Rattle.std.proofs.Common.{◌≡◌, ℕ, ◌+◌, ◌*◌, ◌%◌, ap, arith}
 use Rattle.std.proofs.Math.Nat.{mod-add-mod, add-mod-mod}
 use Rattle.std.proofs.lemmas.Nat.{mul-mod_first, mul-mod_second}

@@ -1,4 +1,5 @@
--- The slots to which sorted hashed indices are written.
+-- Sorted hashed indices are written to different slots. Each is in its home slot, or is displaced
+-- at most one slot further than the index in the previous slot.
 use Rattle.std.proofs.Common.{◌≡◌, ◌≢◌, ◌⊎◌, ℕ, zero, suc, ◌+◌, ◌-◌, ◌<◌, ◌≤◌, inl, inr, arith, List, length, get_or, max, ap}
 use Rattle.std.specs.Prelude.{ltb, if◌then◌else◌}
 use Rattle.std.proofs.lemmas.Bool.{cases_eq, cases_lt}

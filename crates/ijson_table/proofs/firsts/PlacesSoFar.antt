@@ -63,7 +63,7 @@ module _ {V : Type 0} (all : List (List ℕ × V)) (earlier : List ℕ) (are : A
       (sym (get_or_read places n e (omega (arith, in_all, count)) t.read 0 ∙ t.so_far.rest n (omega arith)))
       (are.each n (omega (arith, in_all, keys-length all)))
 
-  -- Moving the pair keeps the index of its key among the first `k` pairs.
+  -- Moving pair `n` to index `k` keeps the index of its key among the first `k` pairs.
   at_is : at (take k new) (get_or (keys_of new) k []) ≡ at (take k pairs) pair.0
   at_is = ap₂ at (moved_first pairs new k n t.so_far.within t.more t.moved) (next_key pairs new k n t.so_far.within t.more t.moved)
 

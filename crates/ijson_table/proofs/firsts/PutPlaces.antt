@@ -1,4 +1,5 @@
--- Indices of keys before and after insertions.
+-- An insertion keeps the index of each present key. The index of an inserted missing key is the
+-- length before the insertion.
 use Rattle.std.proofs.Common.{◌≡◌, ◌≢◌, ℕ, suc, ◌<◌, inl, inr, arith, List, [], ◌∷◌, ◌++◌, length, get_or, Some}
 use Rattle.std.proofs.Common.{None, refl, sym, ap, ◌∙◌, length-append}
 use Rattle.std.proofs.Math.ListN.{get_or-append}

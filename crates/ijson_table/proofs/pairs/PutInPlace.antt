@@ -40,11 +40,11 @@ moved (x ∷ xs) new k p kp lp is =
     }
 
 module _ {V : Type 0} (old new : List (List ℕ × V)) (k p : ℕ) (kp : k ≤ p) (lp : p < length old) (is : new ≡ swap old k p) where
-  -- Moving the pair keeps the first `k` pairs.
+  -- Swapping pairs `k` and `p`, where `k ≤ p`, keeps the first `k` pairs.
   pub moved_first : take k new ≡ take k old
   moved_first = ap (take k) is ∙ take-swap old k k p (omega arith) kp
 
-  -- Moving the pair keeps the pairs after index `p`.
+  -- Swapping pairs `k` and `p`, where `k ≤ p`, keeps the pairs after index `p`.
   pub moved_left : drop (p + 1) new ≡ drop (p + 1) old
   moved_left = ap (drop (p + 1)) is ∙ drop-swap old (p + 1) k p (omega (arith, kp)) (omega arith)
 
@@ -63,7 +63,8 @@ module _ {V : Type 0} (old new : List (List ℕ × V)) (k p : ℕ) (kp : k ≤ p
   next_left = ap (put_each (put (take k old) next.pair.0 next.pair.1)) moved_left
       ∙ sym (at_drop_more (put_each (take k old)) old p next.pair lp ∙ ap (λ x. put_each (put (take k old) x.0 x.1) (drop (p + 1) old)) (sym next.was))
 
-  -- If the key of the next pair is new, moving the pair to index `k` inserts it.
+  -- If the key of pair `p` is new, swapping pairs `k` and `p` inserts pair `p` into the first `k`
+  -- pairs.
   pub one_more : at (take k new) (get_or (keys_of new) k []) ≡ None → take (k + 1) new ≡ put (take k old) next.pair.0 next.pair.1
   one_more missing =
       let appended = put-absent (take k new) next.pair.0 next.pair.1 (ap (at (take k new)) (sym next_key) ∙ missing) in
@@ -77,7 +78,8 @@ module _ {V : Type 0} (old new : List (List ℕ × V)) (k p : ℕ) (kp : k ≤ p
     pub before : i < k
     before = omega (arith, position_within (take k new) (get_or (keys_of new) k []) i found, length-take-le k new (le_of_lt within))
 
-    -- Swapping pairs `i` and `k` sets the value at index `i` to the value of the next pair.
+    -- If the key of pair `k` is at index `i`, swapping pairs `i` and `k` sets the value at index
+    -- `i` to the value of pair `k`, and leaves the other pairs before index `k` unchanged.
     over : take k (swap new i k) ≡ with_value (take k new) i next.pair.1
     over =
         let first : List (List ℕ × V) = take k new in
@@ -91,7 +93,8 @@ module _ {V : Type 0} (old new : List (List ℕ × V)) (k p : ℕ) (kp : k ≤ p
         let value = set-value first i pair next.pair.1 there (get_or_default first i next.pair pair there) in
         cc (swapped, last, put, value, next.is, same)
 
-    -- Swapping pairs `i` and `k` keeps the first `k` keys.
+    -- If the key of pair `k` is at index `i`, swapping pairs `i` and `k` leaves the first `k` keys
+    -- as in `old`.
     pub over_keys : keys_of (take k (swap new i k)) ≡ keys_of (take k old)
     over_keys = ap keys_of over ∙ (keys-with_value (take k new) i next.pair.1 ∙ ap keys_of moved_first)
 

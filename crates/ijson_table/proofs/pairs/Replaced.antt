@@ -1,4 +1,4 @@
--- Insertion of a key that is present.
+-- Inserting a present key equals replacing the value at the index of the key.
 use Rattle.std.proofs.Common.{◌≡◌, ℕ, List, Some, ap, sym, ◌∙◌}
 use Rattle.std.specs.Prelude.{slice_get}
 use Rattle.ijson_table.specs.Store.{at, lookup, put, with_value}

@@ -1,10 +1,11 @@
--- A run with one more command.
+-- A run of commands followed by one more possible command is a run.
 use Rattle.std.proofs.Common.{◌≡◌, ℕ, List, [], ◌∷◌, ◌++◌, ap, subst, refl, map}
 use Rattle.ijson_table.specs.declared.commands.Command.{Command}
 use Rattle.ijson_table.specs.declared.commands.Reply.{Reply}
 use Rattle.ijson_table.specs.Steps.{Step, Run}
 
--- A run followed by a possible step is a run.
+-- If the commands of a run are followed by one more command with a possible reply, the result is a
+-- run.
 pub Run-more : {V : Type 0} (pairs : List (List ℕ × V)) (c : ℕ) (commands : List (Command V)) (replies : List (Reply V))
     (mid : List (List ℕ × V)) (d : ℕ) (command : Command V) (reply : Reply V) (pairs' : List (List ℕ × V)) (c' : ℕ)
     → Run pairs c commands replies mid d → Step mid d command reply pairs' c'

@@ -1,4 +1,5 @@
--- The results of inspecting a slot for a key.
+-- If `same` is whether the key of the resident is the key sought, an inspection satisfies `Sees`,
+-- and therefore `LooksAt`.
 use Rattle.std.proofs.Common.{◌≡◌, ◌≢◌, ℕ, ◌+◌, ◌<◌, inl, inr, Bool, true, false, List, [], length, map, get_or, Option}
 use Rattle.std.proofs.Common.{Some, refl, sym, ap, subst, ◌∙◌, ◌↔◌, IsTrue}
 use Rattle.std.specs.Cmp.Lexicographic.{bytes_decides}

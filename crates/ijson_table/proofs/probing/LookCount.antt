@@ -1,4 +1,4 @@
--- Bounds on the number of inspections of a lookup.
+-- The number of inspections of a lookup is within the bounds, wherever the lookup ends.
 use Rattle.std.proofs.Common.{◌≡◌, ◌≢◌, ℕ, zero, suc, ◌+◌, ◌<◌, ◌≤◌, inl, inr, arith, List, length, map, get_or, replicate, Option, Some}
 use Rattle.std.proofs.Common.{None, refl, ap, subst}
 use Rattle.std.specs.Prelude.{sum}

@@ -1,4 +1,5 @@
--- Lemmas about each result of a probe for a key: `Found`, `Vacant` and `Full`.
+-- The end of a probe for a key (`Found`, `Vacant` or `Full`) satisfies `LookUpEnds`, and the number
+-- of inspections is within the bounds.
 use Rattle.std.proofs.Common.{◌≡◌, ◌≢◌, ℕ, ◌%◌, ◌<◌, ◌≤◌, inl, inr, arith, Bool, List, [], ◌∷◌, ◌++◌, length, map, get_or}
 use Rattle.std.proofs.Common.{Option, Some, sym, ap, subst, ◌∙◌}
 use Rattle.std.proofs.lemmas.List.{length-map}

@@ -1,4 +1,5 @@
--- A list after an item is removed and later items are moved down.
+-- Removing an item from a list decreases the indices of later items by one, and keeps the keys of
+-- pairs distinct.
 use Rattle.std.proofs.Common.{◌≡◌, ℕ, suc, ◌+◌, ◌<◌, inl, inr, arith, List, [], ◌++◌, length, get_or, map, ltb, sym, ap, subst, ◌∙◌}
 use Rattle.std.proofs.Common.{if◌then◌else◌, None}
 use Rattle.std.specs.List.{remove}

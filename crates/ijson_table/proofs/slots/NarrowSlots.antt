@@ -1,4 +1,5 @@
--- Values that fit the three bytes of a narrow slot.
+-- In a table of at most `narrow_slots` slots, each index and the kept part of each hash fit a
+-- narrow slot of three bytes.
 use Rattle.std.proofs.Common.{◌≡◌, ℕ, zero, suc, ◌+◌, ◌*◌, ◌%◌, ◌<◌, ◌≤◌, Option, Some, None, arith}
 use Rattle.std.proofs.Math.Nat.{mod-lt}
 use Rattle.ijson_table.specs.declared.slot.Slot.{Slot}

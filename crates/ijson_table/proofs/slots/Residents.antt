@@ -1,4 +1,4 @@
--- The residents of slots, and how often an index occurs in slots.
+-- An index occurs in a list of slots if and only if the index is the resident of some slot.
 use Rattle.std.proofs.Common.{◌≡◌, ◌≢◌, ℕ, suc, ◌+◌, ◌<◌, ◌≤◌, arith, List, [], ◌∷◌, length, set, take, zero, Option, Some, None}
 use Rattle.std.proofs.Common.{inl, inr, refl, sym, ap, ◌∙◌, get_or-set_other}
 use Rattle.std.proofs.lemmas.List.{length-set}

@@ -1,4 +1,4 @@
--- The number of slots that differ after a write.
+-- Writing a slot adds at most one change to the changes from the old slots.
 use Rattle.std.proofs.Common.{◌≡◌, ℕ, zero, suc, ◌+◌, ◌≤◌, arith, List, [], ◌∷◌, set, Option, Some, None, cond, true, false, eqb, refl}
 use Rattle.std.specs.Option.{option_eq}
 use Rattle.std.proofs.lemmas.Bool.Decides.{nat_tests}

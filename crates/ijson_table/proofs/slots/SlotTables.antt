@@ -1,4 +1,5 @@
--- Slots that are a table of hashes, and the insertion of one more index.
+-- After the next index is inserted into a table of hashes, the slots are a table of these hashes
+-- and the new hash.
 use Rattle.std.proofs.Common.{◌≡◌, ℕ, ◌+◌, ◌<◌, ◌^◌, arith, List, [], ◌∷◌, ◌++◌, length, get_or, Option, Some, None, refl}
 use Rattle.std.proofs.Common.{sym, ap, subst, ◌∙◌, length-append}
 use Rattle.std.specs.List.{All}

@@ -6,7 +6,7 @@ use Rattle.ijson_table.specs.declared.index.probe.Probed.TheVariants.{Found, Vac
 use Rattle.ijson_table.specs.Store.{position_of}
 use Rattle.ijson_table.specs.private.Holds.{HasEmpty, MayStand}
 
--- Whether the key at index `i` is `key`.
+-- Returns `true` if the key at index `i` is `key`.
 abbrev pub is_key : List (List ℕ) → List ℕ → ℕ → Bool
 is_key keys key i = bytes_eq (get_or keys i []) key
 

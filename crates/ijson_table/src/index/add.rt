@@ -60,8 +60,9 @@ pub fn add_new_keys<V, H: KeyHash>(
 
 /// Inserts index `position`, or returns the index of its key if the key is a duplicate.
 ///
-/// Adds to `steps` the number of slots from the home slot to the last slot read or written. For a
-/// new key, the slot at which the probe ended counts twice, since it is both read and written.
+/// Adds the number of slots read and written to `steps`. For a duplicate, these are the slots from
+/// the home slot to the slot of the key. For a new key, these are the slots from the home slot to
+/// the last slot written, with the slot at which the probe ended counted twice.
 #[inline(always)]
 pub fn add_new_key<V, H: KeyHash>(
     pairs: &[(IString, V)],

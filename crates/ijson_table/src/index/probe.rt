@@ -52,7 +52,7 @@ pub trait ProbeTarget {
     /// The displacement of the resident of each slot, or 0 if the slot is empty.
     ghost displacements: { Self → ℕ → ℕ };
 
-    /// Whether an index is the target.
+    /// Returns `true` if an index is the target.
     ghost seeks: { Self → ℕ → Bool };
 
     /// Inspects one slot and adds one inspection to `looks`.

@@ -1,4 +1,5 @@
-//! Removal with backward shift, and the move of an index to a new hash.
+//! Removes indices from the slots with backward shift, and moves an index if the hash of its key
+//! changes.
 
 ghost use Rattle.std.specs.Prelude.{◌≡◌, ℕ, ◌+◌, ◌<◌, ◌≤◌, ◌%◌, ◌^◌, List, length, map, set, Some};
 ghost use Rattle.ijson_table.specs.Slots.{resident};

@@ -10,10 +10,10 @@ pub trait StoredSlot {
     /// The represented slot.
     ghost stands_for: { Self → Slot };
 
-    /// Every represented slot has a code below this limit.
+    /// The type represents only slots with a code below this limit.
     ghost code_limit: { ℕ };
 
-    /// Every represented slot has a hash below this limit.
+    /// The type represents only slots with a hash below this limit.
     ghost hash_limit: { ℕ };
 
     /// Returns the representation of a slot.

@@ -19,7 +19,8 @@ pub fn merge_duplicates<V>(pairs: &mut [(IString, V)], earlier: Vec<usize>) -> u
     requires { AreEarlier (keys_of pairs.old) earlier.items }
     ensures { take result pairs.new ≡ put_each [] pairs.old }
 {
-    // At each index below `position`, `places` has the index of the key among the inserted pairs.
+    // For each `i < position`, `places[i]` is the index in `pairs[..kept]` of the key that pair `i`
+    // had at first. From `position` on, `places` is unchanged.
     let mut places = earlier;
     let mut kept = 0;
     for position in 0..pairs.len() {

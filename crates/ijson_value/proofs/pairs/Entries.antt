@@ -99,7 +99,7 @@ module _ {V : Type 0} where
       position-distinct (keys_of s.pairs) (get_or (keys_of s.pairs) i []) i s.distinct (omega (arith, within, keys-length s.pairs)) refl in
       ap (λ o. out_at swap_out o s.pairs) (sym found)
 
--- States that the key `k` of the object `old` is at index `i`, and that writing there is a put.
+-- Holds if the key `k` of the object `old` is at index `i`, and writing at `i` equals `put`.
 pub record IsAt (old : Store WellFormed) (k : List ℕ) (i : ℕ) : Type 0 where
   pub there : IsSome (at old.pairs k)
   pub key : get_or (keys_of old.pairs) i [] ≡ k
@@ -115,7 +115,7 @@ is_at old key i found = record {
   update = λ w. sym (put-present old.pairs i key w found);
 }
 
--- States that `key` is missing in the object `old`, and that pushing an entry with `key` is a put.
+-- Holds if `key` is missing in the object `old`, and pushing an entry with `key` equals `put`.
 pub record IsAbsent (old : Store WellFormed) (key : List ℕ) : Type 0 where
   pub gone : at old.pairs key ≡ None
   pub none : None ≡ lookup key old.pairs

@@ -1,4 +1,5 @@
--- Lemmas about one insertion, and about an insertion after others.
+-- A successful insertion has the effect of `put`. Inserting `added` and then `pair` inserts
+-- `added ++ pair ∷ []`.
 use Rattle.std.proofs.Common.{◌≡◌, ◌++◌, ◌∷◌, [], List, ℕ, Option, Some, None, Result, Ok, Err, refl, subst}
 use Rattle.std.specs.Prelude.{OnOk}
 use Rattle.ijson_table.specs.Store.{put}

@@ -1,4 +1,5 @@
--- Lemmas about the table of an object, and about lookups by index and by key.
+-- The table of an object has the entries and the capacity of the object. A lookup by key returns
+-- the value of the entry at the index of the key.
 use Rattle.std.proofs.Common.{◌≡◌, refl, sym, ap, ◌∙◌, ℕ, zero, suc, ◌<◌, List, [], ◌∷◌, length, Option, Some, None, MutBor, arith}
 use Rattle.std.specs.Prelude.{slice_get, option_map, option_and_then, IsSome}
 use Rattle.std.specs.Option.{option_copied_mut}

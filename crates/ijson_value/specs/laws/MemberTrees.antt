@@ -8,7 +8,7 @@ use Rattle.ijson_value.specs.AtKey.{out_at, shift_out_key}
 use Rattle.ijson_value.specs.Tree.{Tree, Members, no_members, member, members_of, members_list}
 use Rattle.ijson_value.specs.WellFormed.{WellFormed, tree_of, pair_trees}
 
--- The entry with the tree of its value.
+-- The entry with its value replaced by the value's tree.
 abbrev pub pair_tree : List ℕ × WellFormed → List ℕ × Tree
 pair_tree p = (p.0, tree_of p.1)
 

@@ -50,12 +50,12 @@ some_words n =
     ∷ length (stripped_digits n)
     ∷ stripped_digits n
 
--- States that the number is zero and that its words are 2 and 0.
+-- Holds if `n` is zero and its words are 2 and 0.
 record IsZero (n : Decimal) : Type 0 where
   no_mantissa : nat_abs n.mantissa ≡ 0
   words_are : number_words n ≡ 2 ∷ 0 ∷ []
 
--- States that the number is nonzero and that its words are `some_words`.
+-- Holds if `n` is nonzero and its words are `some_words`.
 record IsSome (n : Decimal) : Type 0 where
   some_mantissa : nat_eq (nat_abs n.mantissa) 0 ≡ false
   words_are : number_words n ≡ some_words n

@@ -1,4 +1,4 @@
-//! Helpers for copying an object.
+//! Helpers for copying an object, which need the private fields of `IObject`.
 ghost use Rattle.std.specs.Prelude.{◌≡◌, IfOk, IsOk, length};
 ghost use Rattle.ijson_table.specs.Store.{keys_of};
 

@@ -1,4 +1,4 @@
-//! Views of one key of an object, which are occupied or vacant.
+//! Views of the entry of one key of an object, which is occupied or vacant.
 ghost use Rattle.std.specs.Prelude.{◌≡◌, ◌<◌, ℕ, List, length, Some, None, IfOk, IfErr};
 ghost use Rattle.std.specs.Borrow.{sem};
 ghost use Rattle.ijson_table.specs.Fold.{fold_words};
@@ -11,7 +11,7 @@ use ijson_table::{FixedHash, KeyHash, ReserveError};
 use std::{fmt, mem};
 use thiserror::Error;
 
-/// A view of one key of an object, occupied or vacant.
+/// A view of the entry of one key of an object, which is occupied or vacant.
 ///
 /// An occupied entry stores the index of its key. A vacant entry stores the hash of its key.
 ///
@@ -26,7 +26,7 @@ pub enum Entry<'a> {
     Vacant(VacantEntry<'a>),
 }
 
-/// A view of an existing key.
+/// A view of the entry of an existing key.
 #[derive(Drop)]
 pub struct OccupiedEntry<'a> {
     object: &'a mut IObject,
@@ -44,7 +44,7 @@ impl Text for IString {
     ghost text = { λ key. key };
 }
 
-/// A view of a missing key, with capacity reserved for it.
+/// A view of the vacant entry of a missing key, with capacity reserved for it.
 ///
 /// The key type is always `IString`. It is a parameter so that the contract of `drop` can state
 /// that the object is unchanged.
@@ -100,7 +100,7 @@ impl IObject {
     ghost use Rattle.ijson_value.specs.LendsEntry.{RestsIfNoEntry};
     ghost use Rattle.ijson_value.specs.WithEntry.{PutsThrough};
 
-    /// Returns a view of `key`.
+    /// Returns the `Entry` of `key`: occupied if the key exists, vacant if it is missing.
     ///
     /// Reserves capacity for one more entry if `key` is missing. Dropping a vacant entry keeps the
     /// reserved capacity.
@@ -140,7 +140,7 @@ impl IObject {
         }
     }
 
-    /// Returns a view of `key`, cloning `key` only if it is missing.
+    /// Like `entry`, but takes `key` by reference, and clones it only if it is missing.
     ///
     /// The clone shares the string. The key is cloned before capacity is reserved.
     ///

@@ -98,7 +98,8 @@ impl IValue {
         }
     }
 
-    /// Returns whether an array or object is empty, or `None` if the value is of another kind.
+    /// Returns `Some(true)` if the value is an empty array or object, and `None` if it is of
+    /// another kind.
     #[tactic(auto, using(crate::specs::laws::Lengths::array_length, crate::specs::laws::Lengths::object_length))]
     pub fn is_empty(&self) -> Option<bool>
         ensures { result ≡ option_map (λ length. length == 0) (length_of self.now.tree) }

@@ -68,8 +68,9 @@ impl IValue {
         }
     }
 
-    /// Converts the value to its number, or returns a value of another kind as `Err`. Nothing is
-    /// copied.
+    /// Returns the number, or the value itself as `Err` if it is of another kind.
+    ///
+    /// Nothing is copied.
     pub fn into_number(self) -> Result<INumber, IValue>
         ensures ok { IfOk result (λ number. self ≡ number_value number) }
         ensures refused { IfErr result (λ value.
@@ -81,8 +82,9 @@ impl IValue {
         }
     }
 
-    /// Converts the value to its string, or returns a value of another kind as `Err`. Nothing is
-    /// copied.
+    /// Returns the string, or the value itself as `Err` if it is of another kind.
+    ///
+    /// Nothing is copied.
     pub fn into_string(self) -> Result<IString, IValue>
         ensures ok { IfOk result (λ string. self ≡ string_value string) }
         ensures refused { IfErr result (λ value.
@@ -94,8 +96,9 @@ impl IValue {
         }
     }
 
-    /// Converts the value to its array, or returns a value of another kind as `Err`. Nothing is
-    /// copied.
+    /// Returns the array, or the value itself as `Err` if it is of another kind.
+    ///
+    /// Nothing is copied.
     pub fn into_array(self) -> Result<IArray, IValue>
         ensures ok { IfOk result (λ array. self ≡ array_value array.items) }
         ensures refused { IfErr result (λ value.
@@ -107,8 +110,9 @@ impl IValue {
         }
     }
 
-    /// Converts the value to its object, or returns a value of another kind as `Err`. Nothing is
-    /// copied.
+    /// Returns the object, or the value itself as `Err` if it is of another kind.
+    ///
+    /// Nothing is copied.
     pub fn into_object(self) -> Result<IObject, IValue>
         ensures ok { IfOk result (λ object. self ≡ object_value object) }
         ensures refused { IfErr result (λ value.

@@ -1,6 +1,6 @@
 //! Tests of the messages and the debug output of errors.
 //!
-//! The operator `?` converts each error to an error with the same message.
+//! Also tests that `?` keeps the message of each error that it converts.
 
 use crate::array::Refused;
 use crate::convert::ConvertError;

@@ -36,7 +36,7 @@ static LOCATED: [(&str, JsonError, &str, &str); 4] = [
     ("1", JsonError::Memory, "out of memory", "Memory"),
 ];
 
-/// Asserts what `report` returns and writes for `answer`, with a sink that moves `piece` bytes per
+/// Asserts what `report` returns and writes for `answer`, with a sink that takes `piece` bytes per
 /// call.
 ///
 /// For success, the status is 0 and nothing is written.

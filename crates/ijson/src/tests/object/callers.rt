@@ -38,7 +38,8 @@ fn put_two(object: &mut IObject, first: &IString, second: &IString) -> Result<()
 
 /// Retains the entries with the value true.
 ///
-/// Returns `true` twice: an iterator over the object yields an entry, and then ends.
+/// Returns `(true, true)`: whether an iterator over the object then yields an entry, and whether it
+/// ends after that entry.
 fn keep_true(object: &mut IObject, first: &IString, second: &IString) -> (bool, bool)
     requires { object.old.pairs ≡ (first.now, boolean_value false) ∷ (second.now, boolean_value true) ∷ [] }
     ensures list { object.new.pairs ≡ (second.now, boolean_value true) ∷ [] }

@@ -10,7 +10,7 @@ use std::alloc::{AllocError, Global};
 use std::fmt::{Debug, Display};
 use std::process::Abort;
 
-/// Letters of objects, each with the debug output of its object.
+/// Objects, each as the letters that denote its entries, with its debug output.
 static OBJECTS: [(&str, &str); 4] = [
     ("a0b1cp", r#"{"a": 0, "b": 1, "c": 2.0}"#),
     ("J1F2K3", r#"{"id": 1, "interned_string_a": 2, "no": 3}"#),

@@ -242,8 +242,10 @@ fn writes(rt: &impl Abort, alloc: Global, letters: &str, there: bool, want: &str
     drop(value);
 }
 
-/// Asserts that `put_by_path` with the key `letters` changes the value of `TEXT`, which has the key if
-/// `there`, to `want`, and that a failed call changes nothing.
+/// Asserts that `put_by_path` with the key `letters` changes the value of `TEXT` to `want`, and
+/// that a failed call changes nothing.
+///
+/// `there` is `true` if `TEXT` has the key.
 fn puts(rt: &impl Abort, alloc: Global, letters: &str, there: bool, want: &str) {
     let mut value = object_with(rt, alloc, letters, there);
     if let Err(refused) = put_by_path(&mut value, key(rt, alloc, letters)) {
