@@ -1,5 +1,6 @@
 #!/usr/bin/env python3
-"""generate.py FOLDER SIZE NAME..: writes the named files, about SIZE bytes each (those of common_kinds.py less), into the folder; the same at each run.
+"""generate.py FOLDER SIZE NAME..: writes the named files, about SIZE bytes each (fewer for those of common_kinds.py), into the folder.
+Each run writes the same bytes.
 
 integers         one array of integers of 7 to 63 bits
 fractions        one array of numbers with 2, 6 or 13 fraction digits

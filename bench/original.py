@@ -92,5 +92,5 @@ def programs(name, sources):
 
 
 def passes(sources):
-    """Like `programs`, for the programs that time passes. Objects do not always keep their order."""
+    """Like `programs`, for the timing programs of `bench/in_process`. Objects do not always keep their order."""
     return {name: peers.Library(program, False, "digits") for name, program in programs("passes", sources).items()}

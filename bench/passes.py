@@ -1,4 +1,4 @@
-"""Runs the programs that time passes within one process, and ends the benchmark if a program writes a wrong text."""
+"""Runs the timing programs of `bench/in_process`, and ends the benchmark if one writes a wrong text."""
 
 import hashlib
 import os

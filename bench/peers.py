@@ -150,8 +150,8 @@ def passes_of_ijson():
 
 
 def libraries(ours):
-    """Returns the programs that time passes within a process, by their names in the tables: this library, and the peers
-    that can be built."""
+    """Returns the timing programs of `bench/in_process`, by their names in the tables: this library, and the peers that
+    can be built."""
     found = {
         ours: Library(passes_of_ijson(), True, "digits"),
         "serde_json exact": Library(rust_program("passes"), True, "digits"),

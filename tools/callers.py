@@ -2,7 +2,7 @@
 """callers.py FOLDER: writes the crates that the pages show into an empty folder, with the libraries, and prints their public functions.
 
 The first shell block of docs/guide.md, "Your first crate", copies libraries and lists the crate `passwords`. A crate `callers` has the Rust examples of
-README.md, docs/guide.md and each crates/*/CALLING.md, each page a module, and `nesting` is the walk of docs/guide.md. All have the files that the pages
+README.md, docs/guide.md and each crates/*/CALLING.md, each page a module, and `nesting` is the walk of docs/contracts.md. All have the files that the pages
 have for them. `rt check` in each proves it.
 
 bench/ and bindings/ use `library_crates` and `copy_crates`, for Rattle sources that are no crate of crates.txt.
@@ -44,7 +44,7 @@ def write_pages(work):
     """Writes the files that the pages have, and the module of each page."""
     modules = {page: f"calls_{page.parent.name}" for page in sorted(TOP.glob("crates/*/CALLING.md"))} | {GUIDE: "guide", TOP / "README.md": "readme"}
     files = {"crates/callers/src/lib.rt": ["//! The callers of the pages.\n#![tactic(auto)]\n", *(f"pub mod {module};" for module in modules.values()), ""]}
-    for page, module in modules.items():
+    for page, module in [*modules.items(), (TOP / "docs/contracts.md", "contracts")]:
         for file, language, text in BLOCKS.findall(page.read_text()):
             if file or language == "rust":
                 files.setdefault(file or f"crates/callers/src/{module}.rt", []).append(text)

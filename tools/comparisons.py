@@ -108,7 +108,7 @@ def citations():
     files = [path for folder in ("specs", "proofs") for path in TOP.glob(f"crates/*/{folder}/**/*.antt")]
     declared = {statement for path in files for statement in statements(path.read_text())}
     checks = []
-    for page in [*sorted(TOP.glob("crates/*/CALLING.md")), TOP / "docs/guide.md"]:
+    for page in [*sorted(TOP.glob("crates/*/CALLING.md")), TOP / "docs/guide.md", TOP / "docs/contracts.md"]:
         text, name = page.read_text(), page.relative_to(TOP)
         lemmas = (it for file, language, block in BLOCKS.findall(text) if language == "antt" and not file for it in statements(block))
         checks += [(f"{name}: {lemma[0]}", lemma in declared) for lemma in lemmas]

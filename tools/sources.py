@@ -191,7 +191,7 @@ def items(*kinds, crates="ijson_*"):
 
 @functools.lru_cache(None)
 def clauses_of_traits():
-    """The clauses of the calls of each trait that the crates declare, also the private ones, by trait and call."""
+    """The clauses of every method of every trait of the crates, private traits included, by trait and method."""
     found = {}
     for crate, path, _ in sources():
         traits = TRAIT.findall(path.read_text())
