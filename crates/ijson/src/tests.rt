@@ -3,9 +3,8 @@
 //! Tests call `drop` on their values, since such a call is one step of a proof. For a value that is
 //! dropped at the end of a scope, the proof has a case for each kind of value.
 
-/// Returns the `Ok` value of a call, which is repeated once if an allocation fails.
-///
-/// The error of a failed allocation is `AllocError`, or `$memory` if that is given.
+/// Returns the `Ok` value of a call, which is repeated once if an allocation fails, with the error
+/// `AllocError`, or `$memory` if that is given.
 macro_rules! granted {
     ($rt:expr; $call:expr) => {
         match $call {
@@ -24,9 +23,8 @@ macro_rules! granted {
     };
 }
 
-/// Returns the result of a call that must make exactly `$count` allocations, 0 by default.
-///
-/// `tests/alloc/modes` counts the allocations.
+/// Returns the result of a call that must make exactly `$count` allocations, 0 by default, which
+/// `tests/alloc/modes` counts.
 macro_rules! counted {
     ($alloc:expr; $call:expr) => {
         counted!($alloc; 0; $call)

@@ -1,7 +1,5 @@
-//! Tests of arrays: the result and effect of each call, also if any of its allocations fails.
-//!
-//! The module `letters` has a letter for each element. The contracts of two callers state the
-//! elements.
+//! Tests of arrays: the result and effect of each call, also if any of its allocations fails. The
+//! module `letters` has a letter for each element.
 ghost use Rattle.std.specs.Prelude.{◌≡◌, [], ◌∷◌, ◌++◌, true, OnOk};
 ghost use Rattle.ijson_value.specs.Values.{null_value, boolean_value};
 
@@ -36,18 +34,15 @@ enum Call {
     Reserve(usize),
     ShrinkToFit,
     Extend,
-    /// Replaces the array by an array created from the elements, or by a copy (`FromSlice` and
-    /// `CloneOf`).
+    /// Replaces the array by an array of the elements, or by its copy (`FromSlice`, `CloneOf`).
     FromIter,
     FromVec,
     FromSlice,
     CloneOf,
 }
 
-/// The state before a call, the call, its elements, the element that it returns, and the state
-/// after it.
-///
-/// A call that keeps the capacity must not allocate.
+/// The state before a call, the call, its elements, the returned element, and the state after it. A
+/// call that keeps the capacity must not allocate.
 type Row = (State, Call, &'static str, &'static str, State);
 
 #[rattlefmt::skip]
@@ -91,8 +86,7 @@ fn spelled(rt: &impl Abort, alloc: Global, (letters, capacity): (&str, usize)) -
     array
 }
 
-/// Asserts that `array` has the elements of `letters`, by each call that reads them, and the
-/// capacity `capacity`.
+/// Asserts the elements of `array`, by each call that reads them, and its capacity.
 fn holds(rt: &impl Abort, array: &IArray, (letters, capacity): (&str, usize)) {
     let len = letters.len();
     assert!(*rt; array.len() == len && array.iter().len() == len && array.capacity() == capacity);
@@ -156,9 +150,7 @@ fn called(rt: &impl Abort, alloc: Global, array: &mut IArray, call: Call, item: 
     }
 }
 
-/// Makes the call of `row`, and repeats it if an allocation fails.
-///
-/// A failed call must leave the array unchanged and return the element.
+/// Makes the call of `row`, and repeats it after an error, which must leave the array unchanged.
 fn made(rt: &impl Abort, alloc: Global, array: &mut IArray, row: Row, item: IValue) -> Option<u8> {
     let letter = letter_of(&item);
     letter_in(match called(rt, alloc, array, row.1, item) {
@@ -171,10 +163,8 @@ fn made(rt: &impl Abort, alloc: Global, array: &mut IArray, row: Row, item: IVal
     })
 }
 
-/// Extends `array` by `items`. `letters` denote all elements of the extended array.
-///
-/// After a failed call, the array must be full, and contain the elements before the returned
-/// element. The array is then extended by the remaining elements.
+/// Extends `array` by `items`; `letters` denote the result. After a failed call, the array must be
+/// full and contain the elements before the returned element; the others are then added.
 fn extends(rt: &impl Abort, alloc: Global, array: &mut IArray, items: IArray, letters: &str) {
     if let Err(Refused(item)) = array.extend(items) {
         let len = array.len();
@@ -190,9 +180,8 @@ fn extends(rt: &impl Abort, alloc: Global, array: &mut IArray, items: IArray, le
     }
 }
 
-/// Returns the array that `from_iter` creates from an iterator.
-///
-/// If an allocation fails, the call must return the first, fifth or ninth element, and is repeated.
+/// Returns the array that `from_iter` creates. A failed call must return an element at which the
+/// capacity grows: the first, fifth or ninth.
 fn of_iterator(rt: &impl Abort, alloc: Global, letters: &str) -> IArray {
     match IArray::from_iter(alloc, spelled(rt, alloc, (letters, letters.len()))) {
         Ok(array) => array,
@@ -206,9 +195,7 @@ fn of_iterator(rt: &impl Abort, alloc: Global, letters: &str) -> IArray {
     }
 }
 
-/// Returns the array that `from_vec` creates from a list.
-///
-/// If an allocation fails, the call must return the list, and is repeated with the list.
+/// Returns the array that `from_vec` creates. A failed call must return the list.
 fn of_list(rt: &impl Abort, alloc: Global, state: State) -> IArray {
     let list: Vec<IValue> = granted!(rt; spelled(rt, alloc, state).into_iter().collect(alloc));
     match counted!(alloc; 1; IArray::from_vec(alloc, list)) {
@@ -243,9 +230,7 @@ fn makes(rt: &impl Abort, alloc: Global, array: &mut IArray, row: Row) {
     }
 }
 
-/// Moves `count` elements out of `array`, and returns the iterator over the remaining elements.
-///
-/// Moving the elements out must not allocate.
+/// Moves `count` elements out of `array` without allocating, and returns the iterator.
 fn rest_of(rt: &impl Abort, alloc: Global, array: IArray, letters: &str, count: usize) -> IntoIter {
     begin_count(alloc);
     let mut items = array.into_iter();
@@ -266,8 +251,7 @@ fn ends(rt: &impl Abort, alloc: Global, array: IArray, letters: &str) {
     drop(rest_of(rt, alloc, array, letters, letters.len()));
 }
 
-/// Makes the call of each row of `ROWS` on one array. If the array is not in the row's state before
-/// the call, the row starts with a new array in that state.
+/// Makes the calls of `ROWS` on one array, which is replaced if a row begins in another state.
 #[test]
 fn calls(rt: HostRuntime) {
     let alloc = rt.alloc();
@@ -284,8 +268,7 @@ fn calls(rt: HostRuntime) {
     ends(&rt, alloc, array, state.0);
 }
 
-/// The elements of an array, how many are moved out, and the debug output of the iterator after
-/// that.
+/// Elements, how many are moved out, and the debug output of the iterator over the others.
 static GIVEN: [(&str, usize, &str); 5] = [
     ("tnf", 0, "IntoIter([true, null, false])"),
     ("tnf", 1, "IntoIter([null, false])"),
@@ -305,8 +288,7 @@ fn iterators(rt: HostRuntime) {
     }
 }
 
-/// Returns `true` if the elements of `array` are the numbers below `len`, and its capacity is
-/// `capacity`.
+/// Returns `true` if `array` has the numbers below `len` and the capacity `capacity`.
 fn counts(array: &IArray, len: usize, capacity: usize) -> bool {
     let mut numbers = array.iter().map(IValue::to_usize).enumerate();
     array.len() == len
@@ -315,8 +297,6 @@ fn counts(array: &IArray, len: usize, capacity: usize) -> bool {
 }
 
 /// Appends numbers to an array of the preceding numbers, until it has `count` elements.
-///
-/// A push is repeated if an allocation fails.
 fn pushes(rt: &impl Abort, array: &mut IArray, count: usize) {
     for number in array.len()..count {
         if let Err(Refused(item)) = array.push(IValue::from(number)) {
@@ -335,9 +315,8 @@ fn changes_size(rt: &impl Abort, array: &mut IArray, len: usize) {
     assert!(*rt; counts(array, len, len));
 }
 
-/// Calls `changes_size` for an array of each size below `most`, and returns the array.
-///
-/// No clause states that a call succeeds if memory is available, so each small size is tried.
+/// Calls `changes_size` for each size below `most`, since no clause states that a call succeeds if
+/// memory is available.
 fn each_size(rt: &impl Abort, alloc: Global, most: usize) -> IArray {
     let mut array = IArray::new(alloc);
     for len in 0..most {
@@ -356,7 +335,6 @@ fn sizes(rt: HostRuntime) {
     drop(array);
 }
 
-/// Inserts, removes and writes elements. The clause states the remaining elements.
 fn edited(rt: &impl Abort, alloc: Global, item: IValue) -> IArray
     ensures { result.items ≡ boolean_value true ∷ item ∷ [] }
 {
@@ -369,7 +347,6 @@ fn edited(rt: &impl Abort, alloc: Global, item: IValue) -> IArray
     array
 }
 
-/// Appends three nulls. Capacity is reserved first, so that the pushes cannot fail.
 fn push_three(array: &mut IArray) -> Result<(), AllocError>
     ensures { OnOk result
         (array.new.items ≡ array.old.items ++ null_value ∷ null_value ∷ null_value ∷ []) }

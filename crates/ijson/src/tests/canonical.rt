@@ -12,10 +12,8 @@ use crate::value::IValue;
 use std::alloc::{AllocError, Global};
 use std::process::Abort;
 
-/// JSON texts, each with its canonical text.
-///
-/// Keys are sorted by their bytes. U+10000 is after U+FFFF, although UTF-16 has the reverse order.
-/// `"` is before `A`, although the escape `\"` is after `A`.
+/// JSON texts with their canonical texts. Keys are sorted by bytes: U+10000 is after U+FFFF, unlike
+/// in UTF-16, and `"` is before `A`, although its escape `\"` is after `A`.
 #[rattlefmt::skip]
 static TEXTS: [(&str, &str); 12] = [
     (r#"{"b":2.0,"a":[10,0.0]}"#, r#"{"a":[1e1,0],"b":2e0}"#),
@@ -41,10 +39,9 @@ static TEXTS: [(&str, &str); 12] = [
       \"key:abcdefghé\":1e1,\"key:z\":7e0,\"key:é\":6e0}"),
 ];
 
-/// JSON texts that are written as they are read, each with its canonical text.
-///
-/// The second canonical text exceeds its initial capacity. Its second object has more entries than
-/// fit in the list that is reused from its first object.
+/// JSON texts that are written as they are read, with their canonical texts. The second canonical
+/// text exceeds its initial capacity; its second object exceeds the list reused from the first
+/// object.
 #[rattlefmt::skip]
 static KEPT: [(&str, &str); 2] = [
     (r#"{"b":{"d":2.0,"c":[10,0.0]},"a":"longlong"}"#, r#"{"a":"longlong","b":{"c":[1e1,0],"d":2e0}}"#),
@@ -54,7 +51,6 @@ static KEPT: [(&str, &str); 2] = [
       \"abcdefghijklmnopqrstuvwxyz0123456789ABCDEFGHIJKLMNOPQRSTUVWXYZ9876543210\"]"),
 ];
 
-/// Asserts that the canonical text of `value` is `want`.
 fn is_canonical(rt: &impl Abort, alloc: Global, value: &IValue, want: &str) {
     let found = granted!(rt; canonical_json(alloc, value));
     assert!(*rt; found.as_str() == want, "{found} is not {want}");
@@ -99,8 +95,7 @@ fn arrays(rt: &impl Abort, alloc: Global, count: usize) -> IValue {
     value
 }
 
-/// Checks that 128 nested arrays are written, and that reading their text fails at the 128th
-/// bracket.
+/// Checks that 128 nested arrays are written, although their text is nested too deeply to be read.
 #[test]
 fn any_depth(rt: HostRuntime) {
     let alloc = rt.alloc();
@@ -127,7 +122,6 @@ fn objects_are_sorted(rt: &impl Abort, alloc: Global, count: usize) {
     drop(value);
 }
 
-/// The order of the keys in a text.
 #[derive(Clone, Copy)]
 enum Keys {
     Rising,
@@ -150,10 +144,8 @@ fn members(alloc: Global, count: u32, keys: Keys) -> Text {
     Ok(text)
 }
 
-/// Returns the text of an array of a string, zeros, an object with `members`, and a number.
-///
-/// The string has `size` letters, `size` zeros follow, and the number has `size` digits before
-/// `behind`.
+/// Returns the text of an array: a string of `size` letters, `size` zeros, an object with
+/// `members`, and a number of `size` digits followed by `behind`.
 fn much(alloc: Global, size: usize, members: &String, behind: &str) -> Text {
     let letters = "a".repeat(alloc, size)?;
     let digits = "1".repeat(alloc, size)?;
@@ -161,8 +153,7 @@ fn much(alloc: Global, size: usize, members: &String, behind: &str) -> Text {
     format!(in alloc; "[\"{letters}\",{zeros}{{{members}}},{digits}{behind}]")
 }
 
-/// Asserts the canonical text of a long array with an object, whose `count` entries are in
-/// descending order.
+/// Asserts the canonical text of `much` with an object of `count` entries in descending order.
 fn much_is_sorted(rt: &impl Abort, alloc: Global, size: usize, count: u32) {
     let falling = granted!(rt; members(alloc, count, Keys::Falling));
     let rising = granted!(rt; members(alloc, count, Keys::Rising));

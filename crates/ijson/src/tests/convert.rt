@@ -27,7 +27,6 @@ use std::alloc::{AllocError, Global};
 use std::collections::{BTreeMap, HashMap};
 use std::process::Abort;
 
-/// The result of a conversion.
 type Converted<T> = Result<T, ConvertError>;
 
 const THERE: &str = "a text that was there";
@@ -39,18 +38,15 @@ fn used_cache(rt: &impl Abort, alloc: Global) -> Cache {
     cache
 }
 
-/// The strings of more than 7 bytes in these tests, each with its spelling in JSON text. The
-/// conversions intern these strings.
+/// The strings that these tests intern, of more than 7 bytes, each with its spelling in JSON text.
 #[rattlefmt::skip]
 static LONG: [(&str, &str); 5] = [
     ("longlong", "longlong"), ("eight888", "eight888"), ("a text of many bytes", "a text of many bytes"),
     ("a key of many bytes", "a key of many bytes"), ("a \"text\" of many bytes", r#"a \"text\" of many bytes"#),
 ];
 
-/// Asserts that `cache` contains exactly `THERE` and the long strings that occur in `text`.
-///
-/// No conversion removes a string from a cache, so a string that a failed call added is counted
-/// too.
+/// Asserts that `cache` contains exactly `THERE` and the long strings that occur in `text`. A
+/// string that a failed call added is counted too.
 fn has_strings(rt: &impl Abort, cache: &Cache, text: &str) {
     let mut missing = cache.len();
     for &(string, written) in &LONG {
@@ -77,10 +73,8 @@ fn is_text<T: ToIValue>(rt: &impl Abort, alloc: Global, x: &T, want: &str) {
 /// Entries of two maps, in the order of insertion.
 static PUT: [(&str, u8); 2] = [("b", 1), ("a", 2)];
 
-/// Entries of a map with long keys, in the order of insertion.
 static PUT_LONG: [(&str, [bool; 1]); 2] = [("longlong", [true]), ("eight888", [true])];
 
-/// Returns a map of the entries `PUT`, which sorts them by their keys.
 fn sorted(alloc: Global) -> Result<BTreeMap<String, u8>, AllocError> {
     let mut map: BTreeMap<String, u8> = BTreeMap::new(alloc);
     for &(letters, n) in &PUT {
@@ -89,7 +83,6 @@ fn sorted(alloc: Global) -> Result<BTreeMap<String, u8>, AllocError> {
     Ok(map)
 }
 
-/// Returns a map of the entries `pairs`, which keeps their order.
 fn inserted<V: Copy + Drop>(
     alloc: Global,
     pairs: &[(&'static str, V)],
@@ -131,7 +124,6 @@ fn slices_tuples_and_texts_are_values(rt: HostRuntime) {
 /// The JSON text of a value whose strings are interned in another cache.
 static PART: &str = r#"{"k":[1.5,"a text of many bytes",{"a key of many bytes":null}]}"#;
 
-/// Returns the value at `pointer` in `value`.
 fn part<'a>(rt: &impl Abort, value: &'a IValue, pointer: &str) -> &'a IValue {
     value.pointer(pointer).expect(rt, pointer)
 }
@@ -158,7 +150,6 @@ fn values_and_their_parts_are_values(rt: HostRuntime) {
     drop(value);
 }
 
-/// A Rust type to which values are converted.
 #[derive(Clone, Copy)]
 enum Type {
     Truth,
@@ -174,8 +165,7 @@ const PAST: Converted<&str> = Err(ConvertError::OutOfRange);
 
 const WRONG_KIND: Converted<&str> = Err(ConvertError::WrongKind);
 
-/// Types and JSON texts, each with the text after a conversion to the type and back, or with the
-/// error.
+/// JSON texts and types, with the text after a conversion to the type and back, or the error.
 #[rattlefmt::skip]
 static READ: [(Type, &str, Converted<&str>); 25] = [
     (Type::Truth, "true", Ok("true")), (Type::Truth, "false", Ok("false")), (Type::Truth, "0", WRONG_KIND),
@@ -235,9 +225,8 @@ fn values_are_read_as_their_types(rt: HostRuntime) {
     }
 }
 
-/// Integers, each with the bits of the smallest signed and unsigned integer types that contain it.
-///
-/// The number of bits is 128 if no type of up to 64 bits contains the integer.
+/// Integers, each with the bits of the smallest signed and unsigned types that contain it, or 128
+/// if no type of up to 64 bits does.
 #[rattlefmt::skip]
 static INTEGERS: [(&str, u8, u8); 26] = [
     ("-9223372036854775809", 128, 128), ("-9223372036854775808", 64, 128), ("-2147483649", 64, 128),
@@ -248,8 +237,7 @@ static INTEGERS: [(&str, u8, u8); 26] = [
     ("18446744073709551615", 128, 64), ("18446744073709551616", 128, 128),
 ];
 
-/// Asserts that an integer converts to a `T` exactly if `fits` is set, and that the `T` has the
-/// same text.
+/// Asserts that an integer converts to a `T`, and back to its text, exactly if `fits` is set.
 fn is_in<T: FromIValue + ToIValue + Drop>(rt: &impl Abort, alloc: Global, text: &str, fits: bool) {
     match said::<T>(rt, alloc, text) {
         Ok(x) => {
@@ -279,12 +267,9 @@ fn integers_are_in_range(rt: HostRuntime) {
     }
 }
 
-/// A nested option.
 type Twice = Option<Option<u8>>;
 
-/// Compares the converted values themselves, instead of their text.
-///
-/// Null converts to the nested option `None`, and not to `Some(None)`.
+/// Compares the converted values themselves. Null is the nested option `None`, not `Some(None)`.
 #[test]
 fn lists_and_options_are_read(rt: HostRuntime) {
     let alloc = rt.alloc();
@@ -302,7 +287,6 @@ fn lists_and_options_are_read(rt: HostRuntime) {
 /// The length of a map, and the value of its key `a`.
 type Found = (usize, Option<u8>);
 
-/// Converts the value of `text` to a hash map, and returns its length and the value of its key `a`.
 fn said_of_a(rt: &impl Abort, alloc: Global, text: &str) -> Converted<Found> {
     let map = said::<HashMap<String, Option<u8>>>(rt, alloc, text)?;
     let found = (map.len(), map.get("a").copied().flatten());
@@ -310,8 +294,7 @@ fn said_of_a(rt: &impl Abort, alloc: Global, text: &str) -> Converted<Found> {
     Ok(found)
 }
 
-/// JSON texts, each with the length of its hash map and the value of the key `a`, or with the
-/// error.
+/// JSON texts, each with the length of its hash map and the value of `a`, or with the error.
 static HASHED: [(&str, Converted<Found>); 7] = [
     ("{}", Ok((0, None))),
     ("{\"b\":1,\"a\":2.0,\"a long key\":null}", Ok((3, Some(2)))),
@@ -333,7 +316,6 @@ fn hash_maps_are_read(rt: HostRuntime) {
     drop(map);
 }
 
-/// Checks that converting a value to a string does not allocate, since the string is shared.
 #[test]
 fn strings_are_read_without_allocating(rt: HostRuntime) {
     let value = parsed(&rt, rt.alloc(), "\"a text of many bytes\"");
@@ -344,9 +326,8 @@ fn strings_are_read_without_allocating(rt: HostRuntime) {
     drop(text);
 }
 
-/// Converts `x` to a value and back, asserts that the result equals `x`, and returns the value.
-///
-/// A conversion of the value to `serde_json` and back must return an equal value.
+/// Asserts that converting `x` to a value and back, and the value to `serde_json` and back, changes
+/// nothing. Returns the value.
 fn goes_back<T: ToIValue + FromIValue + PartialEq + Drop>(
     rt: &impl Abort,
     alloc: Global,

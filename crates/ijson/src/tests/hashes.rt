@@ -13,9 +13,7 @@ pub fn hash_of<T: Hash>(value: &T) -> u64 {
     hasher.finish()
 }
 
-/// Asserts that two values are equal by `==`, by their order and by their hashes.
-///
-/// The comparisons must not allocate.
+/// Asserts that two values are equal by `==`, their order and their hashes, without allocating.
 pub fn are_same<T: Hash + PartialOrd>(rt: &impl Abort, alloc: Global, one: &T, other: &T) {
     counted!(alloc; {
         assert!(*rt; one == other && other == one);
@@ -24,13 +22,9 @@ pub fn are_same<T: Hash + PartialOrd>(rt: &impl Abort, alloc: Global, one: &T, o
     });
 }
 
-/// A hasher that compares the words given to `write_u64` with the words `wanted`.
-///
-/// `write` and `write_i64` make the comparison fail. `write_i64` is defined, since by default it
-/// would call `write_u64`; all other methods call `write`.
-///
-/// In contracts the content of a `Cell` is not part of a value, so counting words does not change
-/// the hasher.
+/// A hasher that compares the words given to `write_u64` with the words `wanted`. `write` and
+/// `write_i64`, which would call `write_u64` by default, make the comparison fail. In contracts
+/// the content of a `Cell` is not part of a value, so counting words does not change the hasher.
 #[derive(Drop)]
 struct Comparing<'a> {
     wanted: &'a [u64],

@@ -1,5 +1,4 @@
-//! Tests of reading and writing JSON text, of devices and errors, and of the order, hashes and
-//! copies of values.
+//! Tests of JSON text, devices and errors, and of the order, hashes and copies of values.
 
 mod devices;
 mod errors;
@@ -40,9 +39,7 @@ fn push_numbered(rt: &impl Abort, text: &mut String, part: &str, number: u32) {
     }
 }
 
-/// Returns `part` for each number from `first` to `last`, separated by commas and between braces.
-///
-/// The number replaces each `#` in `part`. The text is allocated once.
+/// Returns `part` for each number from `first` to `last`, separated by commas, between braces.
 fn numbered(rt: &impl Abort, alloc: Global, part: &str, first: u32, last: u32) -> String {
     let mut text = granted!(rt; String::with_capacity(alloc, 1_000_000));
     text.push('{').expect(rt, "room");

@@ -1,7 +1,5 @@
-//! Values of the tests of arrays and objects, each denoted by a letter.
-//!
-//! The letters are `n` for null, `t` for true, `f` for false, a digit for its number, `p` for 2.0,
-//! and `l` for an array of one null, which owns memory.
+//! Letters for the values in tests of arrays and objects: `n` for null, `t` for true, `f` for
+//! false, a digit for its number, `p` for 2.0, and `l` for an array of one null, which owns memory.
 
 use crate::array::IArray;
 use crate::number::{INumber, ParseNumberError};

@@ -5,10 +5,8 @@ use crate::tests::texts::{is_written, parsed};
 use std::alloc::{AllocError, Global};
 use std::process::Abort;
 
-/// Targets, patches and results.
-///
-/// The first four rows show the order of entries; the second patch has many entries. The other rows
-/// are the table of RFC 7396.
+/// Targets, patches and results. The first four rows show the order of entries; the second patch
+/// has many entries. The other rows are the table of RFC 7396.
 #[rattlefmt::skip]
 static MERGED: [(&str, &str, &str); 19] = [
     (r#"{"a":1,"b":2,"c":3,"d":4}"#, r#"{"e":5,"b":null,"d":{"x":null,"y":6},"f":null,"a":null}"#, r#"{"c":3,"d":{"y":6},"e":5}"#),
@@ -30,7 +28,6 @@ static MERGED: [(&str, &str, &str); 19] = [
     ("{}", r#"{"a":{"bb":{"ccc":null}}}"#, r#"{"a":{"bb":{}}}"#),
 ];
 
-/// Asserts that applying `patch` to `target` results in `want`, all three as JSON texts.
 fn is_patched(rt: &impl Abort, alloc: Global, target: &str, patch: &str, want: &str) {
     let change = parsed(rt, alloc, patch);
     let value = granted!(rt; merge_patch(alloc, parsed(rt, alloc, target), &change));

@@ -1,7 +1,4 @@
-//! Tests of numbers, by tables of facts.
-//!
-//! A row of a table has a decimal text and a fact of its number. `is_known` checks the fact of the
-//! number and of a copy.
+//! Tests of numbers by tables, whose rows have a decimal text and a fact of its number.
 
 mod errors;
 mod facts;
@@ -33,8 +30,7 @@ enum Fact<'a> {
     I64(i64),
     /// The integer of the number's representation, which is `Form::U64`.
     U64(u64),
-    /// The digits and the exponent of the number's representation, which is `Form::Digits`. The
-    /// digits are those of the canonical significand.
+    /// The canonical significand and the exponent of the representation, which is `Form::Digits`.
     List(&'a str, i32),
     /// The debug output of the number's representation.
     Shown(&'a str),
@@ -51,11 +47,9 @@ fn spelled(rt: &impl Abort, alloc: Global, text: &str) -> INumber {
     granted!(rt; ParseNumberError::Memory; INumber::from_str(alloc, text))
 }
 
-/// Asserts that appending the text of `number` to a string without spare capacity appends `want`.
-///
-/// If `power` is given, the significand is appended, and the exponent must be `power`.
-///
-/// Returns `false` if an allocation failed. Only a proper prefix of `want` was then appended.
+/// Asserts that `number` appends `want` to a string without spare capacity: its text or, with the
+/// exponent `power`, its significand. Returns `false` if an allocation failed after a proper prefix
+/// of `want` was appended.
 fn push(rt: &impl Abort, alloc: Global, number: &INumber, power: Option<i32>, want: &str) -> bool {
     let mut text = granted!(rt; String::with_capacity(alloc, 4));
     text.push_str("true").expect(rt, "room");
@@ -72,7 +66,6 @@ fn push(rt: &impl Abort, alloc: Global, number: &INumber, power: Option<i32>, wa
     true
 }
 
-/// Calls `push`, and repeats the call if an allocation fails.
 fn adds(rt: &impl Abort, alloc: Global, number: &INumber, power: Option<i32>, want: &str) {
     if !push(rt, alloc, number, power, want) {
         assert!(*rt; push(rt, alloc, number, power, want), "{want}");
@@ -90,9 +83,8 @@ fn is_written(rt: &impl Abort, alloc: Global, number: &INumber, want: &str) {
     assert!(*rt; rest.is_empty(), "{want}");
 }
 
-/// Asserts that `number` has the representation `form`, which is inline.
-///
-/// Parsing `text` and copying the number must not allocate.
+/// Asserts that `number` has the representation `form`, which is inline: parsing and copying the
+/// number must not allocate.
 fn is_word(rt: &impl Abort, alloc: Global, number: &INumber, text: &str, form: Form<'_>) {
     assert!(*rt; counted!(alloc; number.form()) == form, "{text}");
     let again = counted!(alloc; INumber::from_str(alloc, text)).expect(rt, text);
@@ -102,22 +94,19 @@ fn is_word(rt: &impl Abort, alloc: Global, number: &INumber, text: &str, form: F
     drop(copy);
 }
 
-/// Returns `true` if `text` consists of the digits `digits`.
 fn are_digits(digits: &[u8], text: &str) -> bool {
     let mut pairs = digits.iter().zip(text.bytes());
     digits.len() == text.len() && pairs.all(|(digit, byte)| byte.checked_sub(b'0') == Some(*digit))
 }
 
-/// Returns `true` if the representation of `number` is a list of the digits `want`, with the
-/// exponent `power`.
+/// Returns `true` if `number` is a list of the digits `want`, with the exponent `power`.
 fn is_list(number: &INumber, text: &str, want: &str, power: i32) -> bool {
     matches!(number.form(), Form::Digits { negative, digits, exponent, point }
         if negative == text.starts_with("-") && are_digits(digits, want)
             && exponent == power && point == has_point(text))
 }
 
-/// Asserts that `number` converts to `want` in each integer type that contains it, and to `None` in
-/// the other types.
+/// Asserts that `number` converts to `want` in each type that contains it, otherwise to `None`.
 fn is_integer(rt: &impl Abort, number: &INumber, want: Option<i128>) {
     assert!(*rt; number.to_i64() == in_type(want));
     assert!(*rt; number.to_i32() == in_type(want));
@@ -132,7 +121,6 @@ fn has_point(text: &str) -> bool {
     text.bytes().any(|byte| matches!(byte, b'.' | b'e' | b'E'))
 }
 
-/// Asserts `fact` of `number`, which the decimal text `text` denotes.
 fn holds(rt: &impl Abort, alloc: Global, number: &INumber, text: &str, fact: Fact<'_>) {
     let point = counted!(alloc; number.has_decimal_point());
     assert!(*rt; point == has_point(text), "{text}");
@@ -162,7 +150,6 @@ fn holds(rt: &impl Abort, alloc: Global, number: &INumber, text: &str, fact: Fac
     }
 }
 
-/// Asserts each of `facts` of `number`, which the decimal text `text` denotes.
 fn all_hold(rt: &impl Abort, alloc: Global, number: &INumber, text: &str, facts: &[Fact<'_>]) {
     for &fact in facts {
         holds(rt, alloc, number, text, fact);

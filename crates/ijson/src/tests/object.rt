@@ -1,6 +1,5 @@
-//! Tests of objects: the result and effect of each call, also if any of its allocations fails.
-//!
-//! Two letters denote an entry: the letter of its key, and the letter of its value as in `letters`.
+//! Tests of objects: the result and effect of each call, also if any of its allocations fails. Two
+//! letters denote an entry: the letter of its key, and the letter of its value as in `letters`.
 
 mod callers;
 mod created;
@@ -59,19 +58,15 @@ enum Call {
     GetKeyValueMut,
     IndexMut,
     ValueAtMut(usize),
-    /// Retains all entries except the entry with the key of the row.
     RetainOthers,
     Clear,
     Reserve(usize),
     ShrinkToFit,
     Extend,
     Overlay,
-    /// Replaces the object by its copy.
     CloneOf,
-    /// Writes the value of an existing or new key, and returns the old value, or null if the key is
-    /// new.
-    ///
-    /// `IndexContent` and `IndexValue` call `index_or_insert` on an `IValue`, in two ways.
+    /// Writes the value of a key, and returns the old value, or null for a new key. `IndexContent`
+    /// and `IndexValue` call `index_or_insert` on an `IValue`, in two ways.
     IndexOrInsert,
     IndexContent,
     IndexValue,
@@ -82,22 +77,18 @@ enum Call {
     AndModify,
     /// Fills a vacant `Entry`, or returns the value of an occupied `Entry`.
     Enter,
-    /// Removes an occupied `Entry` with its key and returns its value, or takes the key out of a
-    /// vacant `Entry`.
+    /// Removes an occupied `Entry` and returns its value, or takes the key out of a vacant `Entry`.
     TakeEntry,
     EntryRemove,
     DropEntry,
     DropCopy,
-    /// Writes 7, 8 and the value of the row to an occupied `Entry`, and returns the replaced 8.
-    ///
-    /// `WriteRemove` then removes the `Entry`.
+    /// Writes 7, 8 and the row's value to an occupied `Entry`, and returns the replaced 8.
     Write,
     WriteRemove,
 }
 
-/// The state before a call, the call, its entry, the value that it returns, and the state after it.
-///
-/// A call that keeps the capacity must not allocate.
+/// The state before a call, the call, its entry, the returned value, and the state after it. A call
+/// that keeps the capacity must not allocate.
 type Row = (State, Call, &'static str, &'static str, State);
 
 #[rattlefmt::skip]
@@ -178,9 +169,7 @@ fn name_of(letter: u8) -> &'static str {
     "?"
 }
 
-/// Returns the name of the key and the letter of the value of the entry at `index`.
-///
-/// A missing entry has the name `?` and the letter `n`.
+/// Returns the key's name and the value's letter of an entry, or `?` and `n` if it is missing.
 fn pair_at(letters: &str, index: usize) -> (&'static str, u8) {
     let first = index.wrapping_mul(2);
     let letters = letters.as_bytes();
@@ -189,10 +178,8 @@ fn pair_at(letters: &str, index: usize) -> (&'static str, u8) {
     (name_of(name.unwrap_or(b'?')), letter.unwrap_or(b'n'))
 }
 
-/// An entry of an object.
 type Pair = (IString, IValue);
 
-/// Returns the entry at `index` of the entries that `letters` denote.
 fn pair_of(rt: &impl Abort, alloc: Global, letters: &str, index: usize) -> Pair {
     let (name, letter) = pair_at(letters, index);
     (key(rt, alloc, name), value_of(rt, alloc, letter))
@@ -208,13 +195,11 @@ fn spelled(rt: &impl Abort, alloc: Global, (letters, capacity): (&str, usize)) -
     object
 }
 
-/// Returns `true` if `pair` is an entry with the key `name` and the value of `letter`.
 fn is_pair(pair: Option<(&IString, &IValue)>, name: &str, letter: u8) -> bool {
     matches!(pair, Some((key, value)) if key.eq_str(name) && letter_of(value) == letter)
 }
 
-/// Asserts that each call that finds an entry finds the key `name` at `index`, with the value of
-/// `letter`.
+/// Asserts that each call that finds an entry finds `name` at `index`, with the value of `letter`.
 fn has_pair(rt: &impl Abort, object: &IObject, index: usize, name: &str, letter: u8) {
     assert!(*rt; object.get_index_of(name) == Some(index) && object.contains_key(name));
     assert!(*rt; letter_of(&object[name]) == letter);
@@ -223,8 +208,7 @@ fn has_pair(rt: &impl Abort, object: &IObject, index: usize, name: &str, letter:
     assert!(*rt; is_pair(object.get_key_value(&name), name, letter));
 }
 
-/// Asserts that `object` has exactly the first `len` entries of `letters`, and the capacity
-/// `capacity`.
+/// Asserts that `object` has exactly the first `len` entries of `letters`, and its capacity.
 fn holds_first(rt: &impl Abort, object: &IObject, len: usize, (letters, capacity): (&str, usize)) {
     assert!(*rt; object.len() == len && object.capacity() == capacity);
     assert!(*rt; object.is_empty() == (len == 0));
@@ -244,8 +228,7 @@ fn holds_first(rt: &impl Abort, object: &IObject, len: usize, (letters, capacity
     assert!(*rt; object.get("?").is_none() && object.get_key_value("?").is_none());
 }
 
-/// Asserts that `object` has exactly the entries and the capacity of `state`, by each call that
-/// reads them.
+/// Asserts the entries of `object`, by each call that reads them, and its capacity.
 fn holds(rt: &impl Abort, object: &IObject, state: (&str, usize)) {
     holds_first(rt, object, state.0.len() / 2, state);
 }
@@ -346,8 +329,7 @@ fn seven(place: &mut IValue) {
     set(place, IValue::from(7u8));
 }
 
-/// Writes 8 and then `value` to an occupied `Entry` with the value 7. `WriteRemove` also removes
-/// it.
+/// Writes 8 and `value` to an occupied `Entry` with the value 7, and removes it for `WriteRemove`.
 fn overwritten(rt: &impl Abort, entry: Entry<'_>, call: Call, value: IValue) -> Reply {
     match entry {
         Entry::Occupied(mut entry) => {
@@ -395,8 +377,7 @@ fn opened(rt: &impl Abort, entry: Entry<'_>, call: Call, name: &str, value: IVal
     }
 }
 
-/// Makes the call of `row` on `entry`, and asserts that a closure is called only if its result is
-/// needed.
+/// Makes the call of `row` on `entry`. A closure must be called only if its result is needed.
 fn entered(rt: &impl Abort, entry: Entry<'_>, row: Row, value: IValue, is_present: bool) -> Reply {
     let (name, _) = pair_at(row.2, 0);
     assert!(*rt; entry.key().eq_str(name));
@@ -428,11 +409,7 @@ fn entered(rt: &impl Abort, entry: Entry<'_>, row: Row, value: IValue, is_presen
     Some(letter)
 }
 
-/// Makes the call of `row` for the key of the entry: on its `Entry`, or on `object` if the call
-/// cannot fail.
-///
-/// `OrInsertWith`, `DropCopy`, `Write` and `WriteRemove` get the `Entry` from `entry_or_clone`,
-/// which clones a missing key.
+/// Makes the call of `row` for a key: on its `Entry`, or on `object` if the call cannot fail.
 fn by_key(rt: &impl Abort, object: &mut IObject, row: Row, (key, value): Pair) -> Answer {
     let is_present = object.contains_key(&key);
     let reply = match row.1 {
@@ -494,9 +471,7 @@ fn is_back(rt: &impl Abort, refused: &RefusedPair, letters: &str, index: usize) 
     assert!(*rt; refused.key.eq_str(name) && letter_of(&refused.value) == letter);
 }
 
-/// Makes the call of `row`, and repeats it if an allocation fails.
-///
-/// A failed call must leave the object unchanged and return the entry.
+/// Makes the call of `row`, and repeats it after an error, which must leave the object unchanged.
 fn made(rt: &impl Abort, alloc: Global, object: &mut IObject, row: Row, pair: Pair) -> Reply {
     match called(rt, alloc, object, row, pair) {
         Ok(letter) => letter,
@@ -509,7 +484,6 @@ fn made(rt: &impl Abort, alloc: Global, object: &mut IObject, row: Row, pair: Pa
     }
 }
 
-/// Adds the entries of `pairs` to `object`, by `overlay` or `extend`.
 fn added(object: &mut IObject, call: Call, pairs: IObject) -> Result<(), RefusedPair> {
     match call {
         Overlay => object.overlay(pairs),
@@ -517,9 +491,8 @@ fn added(object: &mut IObject, call: Call, pairs: IObject) -> Result<(), Refused
     }
 }
 
-/// Adds the entries of `pairs` to `object`, and repeats the call if an allocation fails.
-///
-/// After a failed call, the object must be full, and contain the entries before the returned entry.
+/// Adds `pairs` to `object`. After a failed call, which is repeated, the object must be full and
+/// contain the entries before the returned entry.
 fn adds(rt: &impl Abort, alloc: Global, object: &mut IObject, row: Row, pairs: IObject) {
     if let Err(refused) = added(object, row.1, pairs) {
         let len = object.len();
@@ -554,9 +527,7 @@ fn makes(rt: &impl Abort, alloc: Global, object: &mut IObject, row: Row) {
     }
 }
 
-/// Asserts that `object` equals a new object of the same entries, and moves all entries out.
-///
-/// Moving the entries out must not allocate.
+/// Asserts that `object` equals a new object of its entries, and moves them out without allocating.
 fn ends(rt: &impl Abort, alloc: Global, object: IObject, letters: &str) {
     let same = spelled(rt, alloc, (letters, letters.len() / 2));
     are_same(rt, alloc, &object, &same);
@@ -574,10 +545,7 @@ fn ends(rt: &impl Abort, alloc: Global, object: IObject, letters: &str) {
     end_count(alloc, 0);
 }
 
-/// Makes the call of each row of `ROWS` on one object.
-///
-/// If the object is not in the row's state before the call, the row starts with a new object in
-/// that state.
+/// Makes the calls of `ROWS` on one object, which is replaced if a row begins in another state.
 #[test]
 fn calls(rt: HostRuntime) {
     let alloc = rt.alloc();

@@ -10,15 +10,13 @@ use crate::value::{Destructured, DestructuredMut, DestructuredRef, IValue};
 use std::alloc::{AllocError, Global};
 use std::process::Abort;
 
-/// A JSON text whose values are read or written.
 const TEXT: &str = r#"{"foo":["bar","baz"],"":0,"a/b":1,"m~n":8,"~1":9}"#;
 
 const DEEP: &str = r#"[[[0,{"a":[1,[2]]}]],3]"#;
 
 const NULLS: &str = r#"{"a":null,"m~/n":[null]}"#;
 
-/// JSON texts and pointers, each with the value at the pointer and the text after true is written
-/// there.
+/// JSON texts and pointers, the values at the pointers, and the texts after true is written there.
 #[rattlefmt::skip]
 static PLACES: [(&str, &str, &str, &str); 10] = [
     (TEXT, "", TEXT, "true"), (TEXT, "/foo", r#"["bar","baz"]"#, r#"{"foo":true,"":0,"a/b":1,"m~n":8,"~1":9}"#),
@@ -62,8 +60,7 @@ fn put_true_opened(value: &mut IValue, pointer: &str) -> Option<Unresolved> {
     }
 }
 
-/// Like `put_true`, but by `pointer_mut`, which reports no reason. Returns `true` if a value is
-/// found.
+/// Like `put_true`, but by `pointer_mut`. Returns `true` if a value is found.
 fn put_true_pointed(value: &mut IValue, pointer: &str) -> bool {
     match value.pointer_mut(pointer) {
         Some(found) => {
@@ -94,7 +91,6 @@ fn puts_true(value: &mut IValue, pointer: &str, why: Option<Unresolved>, way: Wa
     }
 }
 
-/// Checks that writing at a pointer changes only the value there.
 #[test]
 fn values_are_read_and_written(rt: HostRuntime) {
     let alloc = rt.alloc();
@@ -116,7 +112,6 @@ static NOTHING: [&str; 9] = [
     "/foo/2", "/foo/-", "/foo/01", "/foo/99999999999999999999", "/foo/0/x", "/foo/+1", "/foo/", "/nope", "/nope/nope",
 ];
 
-/// Strings that are not JSON Pointers.
 static NO_POINTERS: [&str; 6] = ["foo", "/~", "/~2", "/nope/~2", "/foo/0/~", "~0"];
 
 /// Asserts that each call finds no value at `pointer` in `value`, for the reason `why`.
@@ -159,7 +154,6 @@ static NAMED: [(&str, &str); 12] = [
     ("/e^f", "3"), ("/g|h", "4"), (r"/i\j", "5"), ("/k\"l", "6"), ("/ ", "7"), ("/m~0n", "8"),
 ];
 
-/// Checks the examples of RFC 6901, section 5.
 #[test]
 fn pointers_of_the_rfc(rt: HostRuntime) {
     let value = parsed(&rt, rt.alloc(), RFC);
@@ -193,7 +187,6 @@ fn reserve(rt: &impl Abort, value: &mut IValue, pointer: &str) {
     }
 }
 
-/// Returns the capacity of an array or object, or 0 for another value.
 fn capacity(value: &IValue) -> usize {
     match value.destructure_ref() {
         DestructuredRef::Array(array) => array.capacity(),
@@ -202,8 +195,7 @@ fn capacity(value: &IValue) -> usize {
     }
 }
 
-/// Asserts that each container of `NESTED` has a capacity of 51: for its element or entry, and 50
-/// more.
+/// Asserts that each container of `NESTED` has the capacity 51: its element or entry, and 50 more.
 fn has_capacities(rt: &impl Abort, value: &IValue) {
     for &pointer in &CONTAINERS {
         let found = resolve(value, pointer).expect(rt, pointer);

@@ -16,8 +16,7 @@ fn passed_on<E: Error>(fault: E) -> anyhow::Result<()> {
     Ok(())
 }
 
-/// Asserts that the debug output of `fault` is `shown`, and that `?` converts `fault` to an error
-/// with the message `message`.
+/// Asserts that the debug output of `fault` is `shown`, and its message after `?` is `message`.
 pub fn is_told<E: Error>(rt: &impl Abort, alloc: Global, fault: E, message: &str, shown: &str) {
     is_shown(rt, alloc, &fault, shown);
     let error = passed_on(fault).err().expect(rt, message);

@@ -1,9 +1,5 @@
-//! Tests of strings and their cache:
-//!
-//! - strings of all sizes, and their properties;
-//! - the number of allocations, and the cache after a failed allocation;
-//! - how often strings are hashed;
-//! - the seed of a `SeededState`.
+//! Tests of strings: their properties, their cache and its allocations, how often strings are
+//! hashed, and the seed of a `SeededState`.
 
 mod cache;
 mod large;

@@ -1,5 +1,4 @@
-//! Functions that the tests of several modules share: to set places, convert integers and count
-//! allocations.
+//! Functions that the tests of several modules share.
 
 use std::alloc::{AllocError, Global};
 
@@ -30,9 +29,7 @@ where
 /// The size, in bytes, of the allocation at which `tests/alloc/refuse.c` starts a count.
 const COUNT_BEGINS: usize = 1_234_567;
 
-/// The size, in bytes, of the allocation that ends a count in which no allocation is expected.
-///
-/// Each expected allocation adds a byte to the size.
+/// The size, in bytes, of the allocation that ends a count. Each expected allocation adds a byte.
 const COUNT_ENDS: usize = 1_300_000;
 
 /// Allocates and frees a block of `size` bytes.
@@ -48,9 +45,7 @@ pub fn begin_count(alloc: Global) {
     mark(alloc, COUNT_BEGINS);
 }
 
-/// Ends the count of allocations.
-///
-/// `tests/alloc/modes` fails a test if the number of allocations is not `count`.
+/// Ends the count of allocations, which `tests/alloc/modes` compares with `count`.
 pub fn end_count(alloc: Global, count: u8) {
     mark(alloc, COUNT_ENDS + usize::from(count));
 }

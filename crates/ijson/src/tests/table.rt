@@ -33,13 +33,11 @@ use std::fmt::Debug;
 use std::process::Abort;
 use std::str;
 
-/// An entry of the stores in these tests.
 type Entry = (IString, u64);
 
 /// A table whose keys all have the same home slot.
 type Crowded = Table<u64, AlwaysZero>;
 
-/// A table with the hash `FixedHash`.
 type Fixed = FixedTable<u64>;
 
 /// The handle of a test, which can allocate and abort.
@@ -47,7 +45,6 @@ trait Host: AllocGlobal + Abort {}
 
 impl<R: AllocGlobal + Abort> Host for R {}
 
-/// A hash that is the length of the key in bytes.
 #[derive(Drop)]
 struct ByLength;
 
@@ -61,7 +58,6 @@ impl KeyHash for ByLength {
     }
 }
 
-/// A hash that is always 0.
 #[derive(Drop)]
 struct AlwaysZero;
 
@@ -148,9 +144,7 @@ fn copied(rt: &impl Abort, alloc: Global, pairs: &[(IString, u64)]) -> Vec<(IStr
     copies
 }
 
-/// Returns `true` if `store` has exactly the entries `pairs`, and the capacity `capacity`.
-///
-/// Each entry must be found by its key.
+/// Returns `true` if `store` has exactly `pairs`, found by their keys, and the capacity `capacity`.
 fn holds<S: Store>(store: &S, pairs: &[Entry], capacity: usize) -> bool {
     for (at, (wanted, number)) in pairs.iter().enumerate() {
         let key = wanted.as_str();
@@ -168,9 +162,7 @@ fn holds<S: Store>(store: &S, pairs: &[Entry], capacity: usize) -> bool {
     store.entries() == pairs && store.len() == pairs.len() && store.capacity() == capacity
 }
 
-/// Returns the key of `number`: a single character, and an `a` after it if `is_longer` is set.
-///
-/// The key does not allocate.
+/// Returns the key of `number`: a character, and an `a` if `is_longer`. The key does not allocate.
 fn numbered(rt: &impl Host, number: u16, is_longer: bool) -> IString {
     let character = char::from_u32(0x4e00 + u32::from(number)).expect(rt, "a character");
     let mut bytes = [b'a'; 4];
@@ -201,7 +193,6 @@ enum Way {
     Call,
 }
 
-/// Returns the command of `step`.
 fn command(rt: &impl Host, step: Step) -> Command<u64> {
     let key = |letters| key(rt, rt.alloc(), letters);
     match step {
@@ -296,9 +287,7 @@ fn is_refused(rt: &impl Host, reply: &Option<Reply<u64>>, step: Step) -> bool {
     is_so
 }
 
-/// Returns the reply to `step`, which is repeated if an allocation fails.
-///
-/// A failed step must leave the store unchanged.
+/// Returns the reply to `step`. A failed step, which is repeated, must leave the store unchanged.
 fn reply<S: Store>(rt: &impl Host, store: &mut S, step: Step, way: Way) -> Reply<u64> {
     let (before, capacity) = (copied(rt, rt.alloc(), store.entries()), store.capacity());
     let mut reply = attempt(rt, store, step, way);

@@ -9,8 +9,7 @@ use std::hash::{BuildHasher, FoldHasher};
 use std::io;
 use std::io::{ErrorKind, Read, Write};
 
-/// A reader that yields one piece per call. A call fails at a piece that is `None`, and after the
-/// last piece.
+/// A reader that yields one piece per call, and fails at a `None` and after the last piece.
 #[derive(Drop)]
 struct Pieces<'a> {
     pieces: &'a [Option<&'a str>],
@@ -30,9 +29,7 @@ impl Read for Pieces<'_> {
     }
 }
 
-/// A writer that accepts all bytes and counts its calls. The call with the index `fails_at` fails.
-///
-/// Each write and each flush is a call.
+/// A writer that counts its writes and flushes, and fails at the call with the index `fails_at`.
 #[derive(Drop)]
 struct Counted<'a> {
     calls: &'a Cell<u32>,
@@ -40,7 +37,6 @@ struct Counted<'a> {
 }
 
 impl Counted<'_> {
-    /// Counts a call, and fails if the call has the index `fails_at`.
     fn call(&self) -> io::Result<()> {
         let call = self.calls.get();
         self.calls.set(call.saturating_add(1));
@@ -80,11 +76,9 @@ impl BuildHasher for CountedState<'_> {
 }
 
 /// Runs: the pieces of the reader, whether the hasher is an error, the index of the writer's call
-/// that fails (2 if no call fails), the result, and the number of the writer's calls.
-///
-/// Writing and flushing a text takes two calls. The reader must not be called after its end or an
-/// error, and the writer must not be called after it failed. Every text is a number, since the
-/// program does not free its value.
+/// that fails (2 if no call fails), the result, and the number of the writer's calls. Writing and
+/// flushing a text takes two calls. The reader must not be called after its end or an error, nor
+/// the writer after an error. Every text is a number, since the program does not free its value.
 static RUNS: [(&[Option<&str>], bool, u32, Result<(), CompactError>, u32); 8] = [
     (&[Some("12"), Some("")], false, 2, Ok(()), 2),
     (&[Some("1"), Some("2"), Some("")], false, 2, Ok(()), 2),
@@ -142,11 +136,8 @@ fn streams_are_called_as_often_as_they_must(rt: HostRuntime) {
     }
 }
 
-/// Checks that each string of more than 7 bytes is hashed once, by the hasher passed to the
-/// program.
-///
-/// The program does not free its value and its cache, so the gate ignores the memory that this test
-/// leaves.
+/// Checks that each string of more than 7 bytes is hashed once, by the hasher passed in. The gate
+/// ignores the memory that this test leaves, since the program does not free its value and cache.
 #[test]
 fn strings_are_hashed_by_the_hasher_given(rt: HostRuntime) {
     let (calls, made) = (Cell::new(0), Cell::new(0));

@@ -1,6 +1,4 @@
-//! Tests of the messages and the debug output of errors.
-//!
-//! Also tests that `?` keeps the message of each error that it converts.
+//! Tests of the debug output of errors, and of their messages after a conversion by `?`.
 
 use crate::array::Refused;
 use crate::convert::ConvertError;
@@ -20,7 +18,6 @@ static OF_CONVERSIONS: [(ConvertError, &str, &str); 4] = [
     (ConvertError::Memory, "out of memory", "Memory"),
 ];
 
-/// Errors of a pointer, each with its message and debug output.
 #[rattlefmt::skip]
 static OF_POINTERS: [(Unresolved, &str, &str); 2] = [
     (Unresolved::Nothing, "the JSON Pointer refers to no value", "Nothing"),

@@ -1,10 +1,6 @@
-//! Tests of `ijson!` literals.
-//!
-//! Each rule of the macro has a function with one literal, whose contract states the tree. If a
-//! rule omits, changes or misplaces a value, a goal of that function cannot be proved.
-//!
-//! The tests assert the text of each value too, since a literal that always returns `Memory` would
-//! meet its contract.
+//! Tests of `ijson!` literals. Each rule of the macro has a function whose contract states the tree
+//! of one literal, so that a wrong rule leaves a goal unproved. The tests assert the text too,
+//! since a literal that always returns `Memory` would meet its contract.
 ghost use Rattle.std.specs.Prelude.{◌≡◌, IfOk, codes, string_bytes};
 ghost use Rattle.ijson_value.specs.Tree.{null, boolean, array, object, no_items, item, no_members, member};
 
@@ -18,52 +14,44 @@ use crate::value::IValue;
 use std::alloc::{AllocError, Global};
 use std::process::Abort;
 
-/// The result of a literal.
 type Built = Converted<IValue>;
 
-/// Builds the literal `null`.
 fn null_alone(alloc: Global, cache: &mut Cache) -> Built
     ensures { IfOk result (λ value. value.tree ≡ null) }
 {
     ijson!(alloc, cache; null)
 }
 
-/// Builds a literal that is an expression.
 fn expression_alone<T: ToIValue>(alloc: Global, cache: &mut Cache, x: &T) -> Built
     ensures { IfOk result (λ value. value.tree ≡ T.ToIValue.tree x.now) }
 {
     ijson!(alloc, cache; *x)
 }
 
-/// Builds an empty array.
 fn empty_list(alloc: Global, cache: &mut Cache) -> Built
     ensures { IfOk result (λ value. value.tree ≡ array no_items) }
 {
     ijson!(alloc, cache; [])
 }
 
-/// Builds an empty object.
 fn empty_object(alloc: Global, cache: &mut Cache) -> Built
     ensures { IfOk result (λ value. value.tree ≡ object no_members) }
 {
     ijson!(alloc, cache; {})
 }
 
-/// Builds an array with `null` as its first element, and an expression as its last.
 fn null_first(alloc: Global, cache: &mut Cache, x: bool) -> Built
     ensures { IfOk result (λ value. value.tree ≡ array (item null (item (boolean x) no_items))) }
 {
     ijson!(alloc, cache; [null, x])
 }
 
-/// Builds an array with an expression as its first element, and `null` before a trailing comma.
 fn null_last(alloc: Global, cache: &mut Cache, x: bool) -> Built
     ensures { IfOk result (λ value. value.tree ≡ array (item (boolean x) (item null no_items))) }
 {
     ijson!(alloc, cache; [x, null,])
 }
 
-/// Builds an array with an array as its first element.
 fn list_first(alloc: Global, cache: &mut Cache, x: bool, y: bool) -> Built
     ensures { IfOk result (λ value. value.tree
         ≡ array (item (array (item (boolean x) no_items)) (item (boolean y) no_items))) }
@@ -71,7 +59,6 @@ fn list_first(alloc: Global, cache: &mut Cache, x: bool, y: bool) -> Built
     ijson!(alloc, cache; [[x], y])
 }
 
-/// Builds an array with an object of one entry as its first element.
 fn object_first(alloc: Global, cache: &mut Cache, x: bool, y: bool) -> Built
     ensures { IfOk result (λ value. value.tree
         ≡ array (item (object (member (codes "a") (boolean x) no_members)) (item (boolean y) no_items))) }
@@ -79,7 +66,6 @@ fn object_first(alloc: Global, cache: &mut Cache, x: bool, y: bool) -> Built
     ijson!(alloc, cache; [{"a": x}, y])
 }
 
-/// Builds an array with an object of one entry as its last element.
 fn object_last(alloc: Global, cache: &mut Cache, x: bool, y: bool) -> Built
     ensures { IfOk result (λ value. value.tree
         ≡ array (item (boolean x) (item (object (member (codes "a") (boolean y) no_members)) no_items))) }
@@ -87,7 +73,6 @@ fn object_last(alloc: Global, cache: &mut Cache, x: bool, y: bool) -> Built
     ijson!(alloc, cache; [x, {"a": y}])
 }
 
-/// Builds an object with `null` as its first value, and an expression as its last.
 fn null_member(alloc: Global, cache: &mut Cache, x: bool) -> Built
     ensures { IfOk result (λ value. value.tree
         ≡ object (member (codes "a") null (member (codes "b") (boolean x) no_members))) }
@@ -95,7 +80,6 @@ fn null_member(alloc: Global, cache: &mut Cache, x: bool) -> Built
     ijson!(alloc, cache; {"a": null, "b": x})
 }
 
-/// Builds an object with an expression as its first value, and `null` before a trailing comma.
 fn null_member_last(alloc: Global, cache: &mut Cache, x: bool) -> Built
     ensures { IfOk result (λ value. value.tree
         ≡ object (member (codes "a") (boolean x) (member (codes "b") null no_members))) }
@@ -103,7 +87,6 @@ fn null_member_last(alloc: Global, cache: &mut Cache, x: bool) -> Built
     ijson!(alloc, cache; {"a": x, "b": null,})
 }
 
-/// Builds an object with an array as its first value.
 fn list_member(alloc: Global, cache: &mut Cache, x: bool, y: bool) -> Built
     ensures { IfOk result (λ value. value.tree
         ≡ object (member (codes "a") (array (item (boolean x) no_items)) (member (codes "b") (boolean y) no_members))) }
@@ -111,7 +94,6 @@ fn list_member(alloc: Global, cache: &mut Cache, x: bool, y: bool) -> Built
     ijson!(alloc, cache; {"a": [x], "b": y})
 }
 
-/// Builds an object with an object of one entry as its last value.
 fn object_member(alloc: Global, cache: &mut Cache, x: bool, y: bool) -> Built
     ensures { IfOk result (λ value. value.tree
         ≡ object (member (codes "a") (boolean x)
@@ -120,21 +102,18 @@ fn object_member(alloc: Global, cache: &mut Cache, x: bool, y: bool) -> Built
     ijson!(alloc, cache; {"a": x, "b": {"c": y}})
 }
 
-/// Builds an object with a duplicate key, whose last value replaces the first.
 fn repeated_key(alloc: Global, cache: &mut Cache, x: bool, y: bool) -> Built
     ensures { IfOk result (λ value. value.tree ≡ object (member (codes "a") (boolean y) no_members)) }
 {
     ijson!(alloc, cache; {"a": x, "a": y})
 }
 
-/// Builds an object with a key that consists of several tokens.
 fn key_of_tokens(alloc: Global, cache: &mut Cache, key: &String, x: bool) -> Built
     ensures { IfOk result (λ value. value.tree ≡ object (member (string_bytes key.now) (boolean x) no_members)) }
 {
     ijson!(alloc, cache; {key.as_str(): x})
 }
 
-/// Builds an object with `null` as the value of a key that consists of several tokens.
 fn null_of_tokens(alloc: Global, cache: &mut Cache, key: &String) -> Built
     ensures { IfOk result (λ value. value.tree ≡ object (member (string_bytes key.now) null no_members)) }
 {
@@ -144,33 +123,26 @@ fn null_of_tokens(alloc: Global, cache: &mut Cache, key: &String) -> Built
 // Each call in the expansion of a literal can return early, and then drops the arrays and objects
 // built so far. With one literal per function, an early return has nothing else to drop.
 
-/// Builds an object with a duplicate key, a key that is an expression, and a trailing comma.
 fn pairs(alloc: Global, cache: &mut Cache, key: &str) -> Built {
     ijson!(alloc, cache; {"name": "ijson", "sizes": [], key: {}, "name": [],})
 }
 
-/// Builds an object with a string, an empty array, and an array with a trailing comma.
 fn strings(alloc: Global, cache: &mut Cache) -> Built {
     ijson!(alloc, cache; {"foo": "bar", "x": [], "y": [1, null, true,]})
 }
 
-/// Builds three nested objects.
 fn objects(alloc: Global, cache: &mut Cache, key: &str) -> Built {
     ijson!(alloc, cache; {key: {"deep": true, "none": {}}})
 }
 
-/// Builds an array with an empty array, and an element of more than one token.
 fn tokens(alloc: Global, cache: &mut Cache, n: i64) -> Built {
     ijson!(alloc, cache; [[], n / 2])
 }
 
-/// Builds an object with a long key and a long string; the duplicate key replaces an array with an
-/// object.
 fn long(alloc: Global, cache: &mut Cache) -> Built {
     ijson!(alloc, cache; {"longlong": ["eight888", {}], "c": {}, "longlong": ["x"]})
 }
 
-/// Builds an object from an `IValue`, an `INumber`, a tuple and an array.
 fn values(alloc: Global, cache: &mut Cache, value: IValue, number: INumber) -> Built {
     ijson!(alloc, cache; {"a": [value], "n": number, "s": ("x", [1u8, 2])})
 }
@@ -187,7 +159,6 @@ macro_rules! are_written {
     };
 }
 
-/// Asserts that `value`, the value of a literal, is written as `want`.
 fn is_built(rt: &impl Abort, alloc: Global, value: IValue, want: &str) {
     is_written(rt, alloc, &value, want);
     drop(value);
@@ -235,9 +206,7 @@ fn mixed(rt: &impl Abort, alloc: Global, cache: &mut Cache) -> Converted<()> {
     Ok(())
 }
 
-/// Checks the text of each literal's value, and that exactly two strings are interned.
-///
-/// No literal removes a string from a cache, so a string that a failed call added is counted too.
+/// Checks the texts of all literals, and that only two strings are interned, also by failed calls.
 #[test]
 fn literals_are_values(rt: HostRuntime) {
     let alloc = rt.alloc();

@@ -1,5 +1,4 @@
-//! Tests of conversions to `serde_json` and back, by the call for values and by the calls for each
-//! kind.
+//! Tests of conversions to `serde_json` and back, by the calls for values and for each kind.
 
 use super::{Converted, has_strings, used_cache};
 use crate::convert::{
@@ -16,10 +15,8 @@ use std::process::Abort;
 
 const NUMBER: Converted<&str> = Err(ConvertError::Number);
 
-/// JSON texts, each with the text of its value, or the error, after two conversions.
-///
-/// The first conversion is to `serde_json` and back. The second conversion starts with the value
-/// that `serde_json` reads from the text.
+/// JSON texts, each with the texts or errors of two conversions: of its value to `serde_json` and
+/// back, and of the value that `serde_json` reads.
 #[rattlefmt::skip]
 static SERDE: [(&str, Converted<&str>, Converted<&str>); 19] = [
     (r#"{"b":1,"a":2.0}"#, Ok(r#"{"a":2,"b":1}"#), NUMBER),
@@ -53,7 +50,6 @@ fn from_kind(alloc: Global, cache: &mut Cache, value: &Value) -> Converted<IValu
     }
 }
 
-/// Converts a value to `serde_json` by the call for its kind.
 fn to_kind(alloc: Global, value: &IValue) -> Converted<Value> {
     match value.destructure_ref() {
         DestructuredRef::Number(number) => {
@@ -76,7 +72,6 @@ pub(super) fn there_and_back(
     back
 }
 
-/// Converts a value to `serde_json` and back, by the call for its kind.
 fn by_kind(alloc: Global, cache: &mut Cache, value: &IValue) -> Converted<IValue> {
     let there = to_kind(alloc, value)?;
     let back = from_kind(alloc, cache, &there);
@@ -84,9 +79,7 @@ fn by_kind(alloc: Global, cache: &mut Cache, value: &IValue) -> Converted<IValue
     back
 }
 
-/// Asserts that `answer` is the wanted error, or a value equal to `same` that has the wanted text.
-///
-/// `cache` must contain the strings of the value.
+/// Asserts that `answer` is the wanted error, or equals `same`, with the wanted text and strings.
 fn is_wanted(
     rt: &impl Abort,
     alloc: Global,
@@ -108,9 +101,8 @@ fn is_wanted(
     drop(cache);
 }
 
-/// Asserts the text or the error `back` of converting `value` to `serde_json` and back.
-///
-/// The conversions use the call for values, and then the calls for each kind.
+/// Asserts the text or the error `back` of converting `value` to `serde_json` and back, by the call
+/// for values and by the calls for each kind.
 fn goes_back(rt: &impl Abort, alloc: Global, value: &IValue, back: Converted<&str>) {
     let mut cache = used_cache(rt, alloc);
     let answer = settled!(there_and_back(alloc, &mut cache, value));
@@ -121,9 +113,7 @@ fn goes_back(rt: &impl Abort, alloc: Global, value: &IValue, back: Converted<&st
 }
 
 /// Asserts the text or the error `over` of converting the value that `serde_json` reads from
-/// `text`.
-///
-/// The conversions use the call for values, and then the calls for each kind.
+/// `text`, by the call for values and by the calls for each kind.
 fn goes_over(rt: &impl Abort, alloc: Global, text: &str, value: &IValue, over: Converted<&str>) {
     let there = match Value::from_str(alloc, text) {
         Ok(there) => there,

@@ -18,17 +18,13 @@ use std::io;
 use std::io::{ErrorKind, Read, Write};
 use std::process::Abort;
 
-/// The maximum number of bytes per call, and the numbers of bytes after which reading and writing
-/// fail.
+/// The maximum number of bytes per call, and the numbers after which reading and writing fail.
 type Devices = (usize, usize, usize);
 
 /// A result of `compact`, and the bytes that it wrote.
 type Outcome<'a> = (Result<(), CompactError>, &'a [u8]);
 
-/// Compacts `text` to `output`, from a source of `piece` bytes per call that fails after `most`
-/// bytes.
-///
-/// The call is repeated once if an allocation fails.
+/// Compacts `text` from a source of `piece` bytes per call that fails after `most` bytes.
 fn compacted<W: Sink>(
     rt: &impl Abort,
     alloc: Global,
@@ -49,8 +45,7 @@ fn compacted<W: Sink>(
     answer
 }
 
-/// Asserts that `compact` returns `want` and writes `written`, and that `report` reports the
-/// result.
+/// Asserts the result of `compact`, the bytes that it writes, and the report of the result.
 pub fn follows(
     rt: &impl Abort,
     alloc: Global,
@@ -71,9 +66,7 @@ const TEXT: &[u8] = b"[1.50,true]";
 
 const LINE: &[u8] = b"[1.5,true]\n";
 
-/// Asserts the output of `compact` with devices that fail after each number of bytes.
-///
-/// If the source fails, nothing is written. If the sink fails, a prefix of the line is written.
+/// Asserts that nothing is written if the source fails, and a prefix of the line if the sink fails.
 pub fn fail_after_each_byte(rt: &impl Abort, alloc: Global, piece: usize) {
     let mut cache = used_cache(rt, alloc);
     let (unread, cut) = (Err(CompactError::Read), Err(CompactError::Write));
@@ -93,15 +86,13 @@ fn devices_that_fail(rt: HostRuntime) {
     fail_after_each_byte(&rt, rt.alloc(), 3);
 }
 
-/// Inputs, each with the outcome of `compact` and the number of strings that `compact` adds to the
-/// cache.
+/// Inputs, each with the outcome of `compact` and the number of strings added to the cache.
 static COMPACTED: [(&[u8], Outcome<'static>, usize); 3] = [
     (b"[1.50]", (Ok(()), b"[1.5]\n"), 0),
     (b"[ \"longlong\" ]", (Ok(()), b"[\"longlong\"]\n"), 1),
     (b"\"\xff\"", (Err(CompactError::NotUtf8), b""), 0),
 ];
 
-/// Asserts the outcomes of `COMPACTED` with devices that move `piece` bytes per call.
 fn are_compacted(rt: &impl Abort, alloc: Global, piece: usize) {
     for &(text, outcome, added) in &COMPACTED {
         let mut cache = used_cache(rt, alloc);
@@ -136,10 +127,8 @@ fn compacting_to_a_value(rt: HostRuntime) {
     drop(value);
 }
 
-/// Checks that the compact line is written into the memory of the input.
-///
-/// Reading the input takes two allocations. Its value takes three: two lists, and a box for one of
-/// the lists.
+/// Checks that the line reuses the memory of the input: reading the input takes two allocations,
+/// and its value takes three (two lists, and a box for one of the lists).
 #[test]
 fn a_line_allocates_nothing(rt: HostRuntime) {
     let alloc = rt.alloc();
@@ -153,8 +142,7 @@ fn a_line_allocates_nothing(rt: HostRuntime) {
     drop(cache);
 }
 
-/// Checks an input that outgrows its first allocation, and a line that outgrows the memory of the
-/// input.
+/// Checks an input that outgrows its first allocation, and a line that outgrows the input.
 #[test]
 fn a_line_longer_than_its_text(rt: HostRuntime) {
     let alloc = rt.alloc();
@@ -169,8 +157,6 @@ fn a_line_longer_than_its_text(rt: HostRuntime) {
 }
 
 /// A stream that moves at most `piece` bytes per call, or fails with `fault`, and counts its calls.
-///
-/// Calls read from `left` and write to `written`.
 #[derive(Drop)]
 struct Stream<'a> {
     left: &'a [u8],
@@ -226,9 +212,8 @@ impl Write for Stream<'_> {
     }
 }
 
-/// Asserts that an error of the kind `kind` is a device fault.
-///
-/// This includes `Interrupted`, after which std's `read_exact` and `write_all` would try again.
+/// Asserts that an error of the kind `kind` is a device fault, also `Interrupted`, after which
+/// std's `read_exact` and `write_all` would try again.
 fn is_a_fault(rt: &impl Abort, alloc: Global, kind: ErrorKind) {
     let mut input = StreamSource::new(Stream::new(alloc, b"", 3, Some(kind)));
     let mut output = StreamSink::new(Stream::new(alloc, b"", 3, Some(kind)));
@@ -259,9 +244,7 @@ fn streams_that_fail(rt: HostRuntime) {
     assert!(rt; full.write(b"a") == Err(DeviceFault) && full.failures() == 1);
 }
 
-/// Returns the compact line of `bytes`, which are read from a queue and written to a queue.
-///
-/// The contracts of a queue describe its bytes, so that a clause can state the line.
+/// Compacts `bytes` from a queue to a queue, since the contracts of a queue describe its bytes.
 fn queued(alloc: Global, bytes: &[u8]) -> Result<VecDeque<u8>, CompactError>
     ensures line { IfOk result (λ written. IsCompactLine bytes.now written.items) }
 {
@@ -271,9 +254,7 @@ fn queued(alloc: Global, bytes: &[u8]) -> Result<VecDeque<u8>, CompactError>
     Ok(sink.into_inner())
 }
 
-/// Compacts `text` with streams of three bytes per call, and asserts that `line` is written.
-///
-/// Returns `false` if an allocation fails.
+/// Compacts `text` to `line`, three bytes per call. Returns `false` if an allocation fails.
 fn streamed(rt: &impl Abort, alloc: Global, text: &[u8], line: &[u8]) -> bool {
     let mut input = StreamSource::new(Stream::new(alloc, text, 3, None));
     let mut output = StreamSink::new(Stream::new(alloc, b"", 3, None));
@@ -287,7 +268,6 @@ fn streamed(rt: &impl Abort, alloc: Global, text: &[u8], line: &[u8]) -> bool {
     true
 }
 
-/// Compacts a short text with queues, and a long text with streams that move three bytes per call.
 #[test]
 fn streams_pass_bytes_on(rt: HostRuntime) {
     let alloc = rt.alloc();

@@ -1,5 +1,4 @@
-//! Tests of errors: messages, debug output, lines and columns, and the output and status of
-//! `report`.
+//! Tests of errors: messages, debug output, lines and columns, and the effects of `report`.
 
 use crate::json::{
     CompactError, DeviceFault, JsonError, MemorySink, Sink, line_and_column, report,
@@ -23,8 +22,7 @@ static ERRORS: [(CompactError, u8, &str, &str); 9] = [
     (CompactError::Memory, 3, "out of memory", "Memory"),
 ];
 
-/// JSON texts, each with an error in it, and the message and debug output of the error with its
-/// line and column.
+/// JSON texts and errors, each with the message and debug output of the located error.
 #[rattlefmt::skip]
 static LOCATED: [(&str, JsonError, &str, &str); 4] = [
     ("[1,\n\u{e9}]", JsonError::Syntax { at: 6 },
@@ -36,10 +34,7 @@ static LOCATED: [(&str, JsonError, &str, &str); 4] = [
     ("1", JsonError::Memory, "out of memory", "Memory"),
 ];
 
-/// Asserts what `report` returns and writes for `answer`, with a sink that takes `piece` bytes per
-/// call.
-///
-/// For success, the status is 0 and nothing is written.
+/// Asserts the status and output of `report` for `answer`, with a sink of `piece` bytes per call.
 pub fn is_reported(
     rt: &impl Abort,
     alloc: Global,
@@ -62,9 +57,8 @@ pub fn is_reported(
     }
 }
 
-/// Asserts that `report` returns `status` for `error`, and writes a line with `message`.
-///
-/// If the sink fails, the status is the same, and a prefix of the line is written.
+/// Asserts that `report` returns `status` for `error`, and writes a line with `message`, or only a
+/// prefix of the line if the sink fails.
 fn reports(rt: &impl Abort, alloc: Global, error: CompactError, status: u8, message: &str) {
     let line = granted!(rt; format!(in alloc; "ijson: {message}\n"));
     let mut errors = granted!(rt; MemorySink::new(alloc, 4, 21_000));

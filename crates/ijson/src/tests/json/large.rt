@@ -9,7 +9,6 @@ use super::{Parts, numbered, repeated};
 use crate::tests::texts::{is_written, parsed};
 use std::alloc::AllocError;
 
-/// Checks the tables of texts with devices that move 1 and 2 bytes per call.
 #[test]
 fn few_bytes_a_call(rt: HostRuntime) {
     for piece in 1..3usize {

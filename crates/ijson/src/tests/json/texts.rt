@@ -1,7 +1,4 @@
 //! Tests of tables of JSON texts, each with a property that is asserted.
-//!
-//! The properties are the text that is written, the words and the capacity of the value, the
-//! strings added to a cache, and the error.
 
 use super::devices::follows;
 use super::{Parts, repeated};
@@ -50,8 +47,7 @@ pub static WRITTEN: [(&str, Is); 39] = [
     (r#""\u0000""#, Is::Same), ("\"\\u0000\u{7f}\"", Is::Same), (r#""a run, an escape\nand one more run é 東京""#, Is::Same),
 ];
 
-/// JSON texts, each with the words or the capacity of its value, or with the strings added to a
-/// cache.
+/// JSON texts, each with the words or the capacity of its value, or the strings added to a cache.
 #[rattlefmt::skip]
 static VALUES: [(&str, Is); 32] = [
     ("null", Is::Fed(&[0])), ("false", Is::Fed(&[1, 0])), ("true", Is::Fed(&[1, 1])), ("0", Is::Fed(&[2, 0])),
@@ -77,9 +73,8 @@ static VALUES: [(&str, Is); 32] = [
     (r#"[1.5,[true,{"a":"longlong","eight888":"\n"}],12345678901234567890123,null]"#, Is::Adds(&["longlong", "eight888"])),
 ];
 
-/// Texts with a mark at their fault: `|` at a syntax error, `~` at a number that is out of range.
-///
-/// A text is read without its mark.
+/// Texts, each with a mark at its fault: `|` for syntax, `~` for a number that is out of range. A
+/// text is read without its mark.
 #[rattlefmt::skip]
 static FAULTS: [&str; 24] = [
     "|", "|\u{feff}1", "nul|x", "1 |2", "[1 |2]", "[1|", "[1,|]", r#"{"a":1,|}"#, r#"{"a" |1}"#, r#"{"a_key_of_many_bytes":[[1]],|}"#,
@@ -106,7 +101,6 @@ static DEEP: [(Parts, usize); 2] = [
     (("{\"a\":", "[", 127, "", "]", ",\"a\":1}"), 131),
 ];
 
-/// A string that is in the cache before a text is read.
 const OTHER: &str = "a text that was there";
 
 /// Returns a cache that contains only the string `OTHER`.
@@ -121,9 +115,8 @@ pub fn is_kept(cache: &Cache, others: usize) -> bool {
     cache.contains(OTHER) && cache.len() == others.saturating_add(1)
 }
 
-/// Asserts that the value of `text` is written as `want`, and that `want` has an equal value.
-///
-/// `compact` must write `want` too, with devices that move `piece` bytes per call.
+/// Asserts that the value of `text` is written as `want`, also by `compact` with `piece` bytes per
+/// call, and that `want` has an equal value.
 pub fn is_rewritten(rt: &impl Abort, alloc: Global, text: &str, want: &str, piece: usize) {
     let value = parsed(rt, alloc, text);
     is_written(rt, alloc, &value, want);
@@ -147,9 +140,7 @@ fn feeds_words(rt: &impl Abort, value: &IValue, words: &[u64]) {
     }
 }
 
-/// Asserts that the array or object in `value` has the capacity `room`.
-///
-/// A copy of an object must have the same capacity.
+/// Asserts that the array or object in `value`, and a copy of an object, have the capacity `room`.
 fn has_room(rt: &impl Abort, value: &IValue, room: usize) {
     match value.destructure_ref() {
         DestructuredRef::Array(array) => assert!(*rt; array.capacity() == room),
@@ -162,9 +153,7 @@ fn has_room(rt: &impl Abort, value: &IValue, room: usize) {
     }
 }
 
-/// Asserts that reading `text` adds exactly `strings` to a cache.
-///
-/// If the text is read with a cleared cache, the value must be equal.
+/// Asserts that reading `text` adds exactly `strings`, and returns an equal value after `clear`.
 fn adds(rt: &impl Abort, alloc: Global, text: &str, strings: &[&str]) {
     let mut cache = used_cache(rt, alloc);
     let before = granted!(rt; JsonError::Memory; from_json(alloc, &mut cache, text));
@@ -229,7 +218,6 @@ fn repeated_parts(rt: HostRuntime) {
     repeated_are_rewritten(&rt, rt.alloc(), &REPEATED, 3);
 }
 
-/// Asserts that reading `text` fails with the error `want`.
 fn fails(rt: &impl Abort, alloc: Global, text: &str, want: JsonError) {
     let mut found = from_json(alloc, &mut empty_cache(alloc), text).err();
     if found == Some(JsonError::Memory) {
@@ -238,8 +226,7 @@ fn fails(rt: &impl Abort, alloc: Global, text: &str, want: JsonError) {
     assert!(*rt; found == Some(want), "{}", text.get(..40).unwrap_or(text));
 }
 
-/// Asserts that reading `text` fails with `want`, also from devices that move `piece` bytes per
-/// call.
+/// Asserts that reading `text` fails, also from devices that move `piece` bytes per call.
 fn fails_by(rt: &impl Abort, alloc: Global, text: &str, want: JsonError, piece: usize) {
     fails(rt, alloc, text, want);
     let (text, devices) = (text.as_bytes(), (piece, text.len() + 1, 1));
@@ -261,7 +248,6 @@ fn unmarked(rt: &impl Abort, alloc: Global, marked: &str) -> (String, JsonError)
     }
 }
 
-/// Asserts the errors of all texts in `FAULTS`, with devices that move `piece` bytes per call.
 fn marked_fail_by(rt: &impl Abort, alloc: Global, piece: usize) {
     for marked in &FAULTS {
         let (text, error) = unmarked(rt, alloc, marked);
@@ -310,8 +296,7 @@ fn control_characters(rt: HostRuntime) {
     }
 }
 
-/// Appends the comma, quoted string or key that `part` selects, and returns `true` if that
-/// succeeded.
+/// Appends a comma, a quoted string or a key, and returns `true` if that succeeded.
 fn push_part(text: &mut String, part: char) -> bool {
     match part {
         ',' => push_separator(text, false).is_ok(),

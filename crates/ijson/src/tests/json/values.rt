@@ -1,6 +1,4 @@
 //! Tests of the order, equality, hashes and copies of values.
-//!
-//! The contract of one caller states that a map of values finds a value by its copy.
 ghost use Rattle.std.specs.Prelude.{◌≡◌, true, IfOk};
 
 use super::{numbered, repeated};
@@ -17,8 +15,7 @@ use std::collections::HashMap;
 use std::hash::{BuildHasherDefault, FoldHasher};
 use std::process::Abort;
 
-/// JSON texts of two values, and the sign between them: `<`, `=`, `>`, or `?` if they are not
-/// ordered.
+/// JSON texts of two values, and the sign between them, which is `?` if they are not ordered.
 #[rattlefmt::skip]
 static ORDERED: [(&str, char, &str); 31] = [
     ("null", '<', "false"), ("false", '<', "true"), ("false", '<', "0"), ("true", '<', "0"), ("0", '<', "\"\""),
@@ -70,7 +67,6 @@ const ALL_KINDS: &str =
     {\"a\":1.0},{\"a\":2},{\"b\":1},{\"a\":1,\"b\":[1]},{\"b\":[1],\"a\":1},{\"b\":[1],\"c\":1},{\"longlonglong\":{\"a\":null}},\
     {\"a\":{\"a\":{}}}]";
 
-/// Asserts that a copy of `value` is equal to `value` and is written as `want`.
 fn is_copied(rt: &impl Abort, alloc: Global, value: &IValue, want: &str) {
     let copy = granted!(rt; value.clone());
     assert!(*rt; copy == *value);
@@ -78,7 +74,6 @@ fn is_copied(rt: &impl Abort, alloc: Global, value: &IValue, want: &str) {
     drop(copy);
 }
 
-/// Calls `agree` for `left` and each of `values`.
 fn agrees_with_each(rt: &impl Abort, left: &IValue, values: &[IValue]) {
     for right in values {
         agree(rt, left, right);
@@ -99,8 +94,6 @@ fn each_pair_of_values_agrees(rt: HostRuntime) {
     drop(all);
 }
 
-/// Checks a copy of a value with a string of 70,000 letters, an array of 70,000 elements and an
-/// object of 30,000 entries.
 #[test]
 fn a_large_value_is_copied(rt: HostRuntime) {
     let lists = repeated(&rt, rt.alloc(), &("a", "a", 69_999, "\",[0", ",0", "],"));

@@ -7,8 +7,7 @@ use std::alloc::{AllocError, Global};
 use std::error::Error;
 use std::process::Abort;
 
-/// Texts that are not a number in range, each with the result of `read_front`: the length read, or
-/// the error.
+/// Texts that are not a number in range, each with the length or the error of `read_front`.
 #[rattlefmt::skip]
 static REJECTED: [(&str, Result<usize, ReadNumberError>); 29] = [
     ("", Err(ReadNumberError::Syntax { at: 0 })), ("+1", Err(ReadNumberError::Syntax { at: 0 })),

@@ -10,15 +10,13 @@ const THIRTY: &str = "123456789012345678901234567890";
 
 const TENTH: &str = "0.100000000000000000000000000000000000000000000000000";
 
-/// Asserts the fact of each of `rows`.
 fn are_known(rt: &impl Abort, alloc: Global, rows: &[(&str, Fact<'_>)]) {
     for &(text, fact) in rows {
         is_known(rt, alloc, text, &[fact]);
     }
 }
 
-/// Decimal texts, each with the text that is written for its number, or with its canonical
-/// significand.
+/// Decimal texts, each with the written text of its number, or with its canonical significand.
 #[rattlefmt::skip]
 static TEXTS: [(&str, Fact<'static>); 48] = [
     ("-0", Text("0")), ("-0.0", Text("0.0")), ("1.50", Text("1.5")), ("-1.50", Text("-1.5")),
@@ -49,9 +47,8 @@ fn texts(rt: HostRuntime) {
     are_known(&rt, rt.alloc(), &TEXTS);
 }
 
-/// Decimal texts, each with the representation of its number.
-///
-/// Most of the numbers are at, just below or just above a boundary between representations.
+/// Decimal texts, each with the representation of its number. Most of the numbers are at, just
+/// below or just above a boundary between representations.
 #[rattlefmt::skip]
 static FORMS: [(&str, Fact<'static>); 59] = [
     ("0", Packed(0, 0)), ("-0", Packed(0, 0)), ("1", Packed(1, 0)), ("-1", Packed(-1, 0)), ("0.0", Packed(0, 0)),
@@ -103,8 +100,7 @@ const WORDS_OF_THIRTY: [u64; 34] = [
     5, 6, 7, 8, 9, 1,
 ];
 
-/// Decimal texts, each with the words of its number, its value, or the debug output of its
-/// representation.
+/// Decimal texts, each with its number's words, value, or debug output of the representation.
 #[rattlefmt::skip]
 static VALUES: [(&str, Fact<'static>); 29] = [
     ("-2.5", Shown("Packed { mantissa: -25, exponent: -1, point: true }")),
@@ -129,7 +125,6 @@ fn values(rt: HostRuntime) {
     are_known(&rt, rt.alloc(), &VALUES);
 }
 
-/// Asserts that `number` converts to `want` in each integer type that contains `want`.
 fn has_value(rt: &impl Abort, alloc: Global, number: INumber, want: i128) {
     counted!(alloc; is_integer(rt, &number, Some(want)));
     drop(number);

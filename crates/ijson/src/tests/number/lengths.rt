@@ -1,6 +1,5 @@
-//! Tests of numbers of many lengths.
-//!
-//! No clause states that a call succeeds if memory is available, so each small length is tried.
+//! Tests of numbers of many lengths. Each small length is tried, since no clause states that a call
+//! succeeds if memory is available.
 
 use super::Fact::{Stripped, Text};
 use super::is_known;
@@ -19,14 +18,12 @@ fn repeated(rt: &impl Abort, alloc: Global, letters: &str, count: usize) -> Stri
     text
 }
 
-/// Asserts that the number `text` is written as `want`, and has the canonical significand `digits`
-/// and the exponent `exponent`.
+/// Asserts the written text, the canonical significand and the exponent of the number `text`.
 fn keeps(rt: &impl Abort, alloc: Global, text: &str, want: &str, digits: &str, exponent: i32) {
     is_known(rt, alloc, text, &[Text(want), Stripped(digits, exponent)]);
 }
 
-/// Calls `keeps` for `digits` with `scale` fraction digits, for each `scale` from 1 to the number
-/// of digits plus `most`.
+/// Calls `keeps` for `digits` with each number of fraction digits from 1 to `digits.len() + most`.
 fn keeps_each_scale(rt: &impl Abort, alloc: Global, sign: &str, digits: &str, most: usize) {
     for scale in 1..=digits.len().saturating_add(most) {
         let zeros = scale.saturating_add(1).saturating_sub(digits.len());
@@ -64,8 +61,7 @@ pub static POWERS: [i32; 21] = [
     101, 32766, 32767, 32768, FAR,
 ];
 
-/// Calls `keeps` for `digits` with a point after the first digit, and with each exponent of
-/// `powers`.
+/// Calls `keeps` for `digits` with a point after the first digit and each exponent of `powers`.
 fn keeps_each_power(rt: &impl Abort, alloc: Global, sign: &str, digits: &str, powers: &[i32]) {
     let first = digits.get(..1).expect(rt, "a digit");
     let rest = digits.get(1..).expect(rt, "the other digits");
@@ -77,8 +73,7 @@ fn keeps_each_power(rt: &impl Abort, alloc: Global, sign: &str, digits: &str, po
     }
 }
 
-/// Calls `keeps` for numbers of `count` digits, with up to `zeros` zeros, and with each exponent of
-/// `powers`.
+/// Calls `keeps` for `count` digits with up to `zeros` zeros, and with each exponent of `powers`.
 pub fn keeps_each(rt: &impl Abort, alloc: Global, count: usize, zeros: usize, powers: &[i32]) {
     let digits = repeated(rt, alloc, DIGITS, count);
     for &sign in &["", "-"] {
@@ -93,8 +88,7 @@ fn digits(rt: HostRuntime) {
     keeps_each(&rt, rt.alloc(), 2, 1, &[41]);
 }
 
-/// The text before the digits of a number, the count of digits, the count of zeros after them, and
-/// the exponent.
+/// The text before the digits, the counts of digits and of zeros after them, and the exponent.
 pub type Long = (&'static str, usize, usize, i32);
 
 /// Asserts that the numbers of `rows`, which have many digits, are written as they are read.

@@ -23,7 +23,6 @@ fn put_false(object: &mut IObject, key: &IString) -> Result<(), ReserveError>
     Ok(())
 }
 
-/// Inserts two keys with the value false, and sets the value of the second key to true.
 fn put_two(object: &mut IObject, first: &IString, second: &IString) -> Result<(), ReserveError>
     requires empty { object.old.pairs ≡ [] }
     requires apart { first.now ≢ second.now }
@@ -36,10 +35,8 @@ fn put_two(object: &mut IObject, first: &IString, second: &IString) -> Result<()
     Ok(())
 }
 
-/// Retains the entries with the value true.
-///
-/// Returns `(true, true)`: whether an iterator over the object then yields an entry, and whether it
-/// ends after that entry.
+/// Retains the entries with the value true. Returns whether an iterator over the object then yields
+/// an entry, and whether the iterator ends after that entry.
 fn keep_true(object: &mut IObject, first: &IString, second: &IString) -> (bool, bool)
     requires { object.old.pairs ≡ (first.now, boolean_value false) ∷ (second.now, boolean_value true) ∷ [] }
     ensures list { object.new.pairs ≡ (second.now, boolean_value true) ∷ [] }
@@ -50,8 +47,7 @@ fn keep_true(object: &mut IObject, first: &IString, second: &IString) -> (bool, 
     (pairs.next().is_some(), pairs.next().is_none())
 }
 
-// `put_two` requires two different strings. No contract describes the result of `key`, so the
-// strings are interned here.
+// `put_two` requires two different strings, which no contract of `key` guarantees.
 #[test]
 fn two_are_put_and_one_is_kept(rt: HostRuntime) {
     let alloc = rt.alloc();
@@ -68,9 +64,8 @@ fn two_are_put_and_one_is_kept(rt: HostRuntime) {
     drop(second);
 }
 
-/// Retains the entries with even numbers, and multiplies each value by ten.
-///
-/// The closure must be called exactly once for each of the six entries.
+/// Retains the even numbers, and multiplies each value by ten. The closure must be called exactly
+/// once for each of the six entries.
 fn retains(rt: &impl Abort, object: &mut IObject) {
     let mut asked = 7usize;
     object.retain(|_key, value| {

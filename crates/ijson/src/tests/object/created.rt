@@ -26,9 +26,8 @@ pub enum Way {
     Keeps,
 }
 
-/// Sources, each with its entries, and the entries and the capacity of the created object.
-///
-/// The order of entries from a `HashMap` is not specified.
+/// Sources and their entries, with the entries and the capacity of the created object. A `HashMap`
+/// does not specify an order.
 #[rattlefmt::skip]
 static CREATED: [(Way, &str, &str, usize); 12] = [
     (Pairs, "a1b2a3", "a3b2", 3), (Pairs, "", "", 0), (Pairs, "a1b2c3d4e5a1", "a1b2c3d4e5", 6),
@@ -48,9 +47,7 @@ pub fn listed(rt: &impl Abort, alloc: Global, letters: &str) -> Vec<Pair> {
     pairs
 }
 
-/// Returns the object that `try_from_pairs` creates from a list.
-///
-/// If an allocation fails, the call must return the list, and is repeated with the list.
+/// Returns the object that `try_from_pairs` creates. A failed call must return the list.
 fn of_list(rt: &impl Abort, alloc: Global, letters: &str) -> IObject {
     match IObject::try_from_pairs(alloc, listed(rt, alloc, letters)) {
         Ok(object) => object,
@@ -65,9 +62,7 @@ fn of_list(rt: &impl Abort, alloc: Global, letters: &str) -> IObject {
     }
 }
 
-/// Returns the object that `from_iter` creates from an iterator.
-///
-/// If an allocation fails, the call must return the first or the fifth entry, and is repeated.
+/// Returns the object that `from_iter` creates. A failed call must return the first or fifth entry.
 fn of_iterator(rt: &impl Abort, alloc: Global, letters: &str) -> IObject {
     let pairs = spelled(rt, alloc, (letters, letters.len() / 2));
     match IObject::from_iter(alloc, pairs) {
@@ -82,8 +77,7 @@ fn of_iterator(rt: &impl Abort, alloc: Global, letters: &str) -> IObject {
     }
 }
 
-/// Returns the object created from a map of the entries of `object`; `way` selects the type of the
-/// map.
+/// Returns the object created from a map of the type `way` with the entries of `object`.
 pub fn through_map(alloc: Global, object: IObject, way: Way) -> Result<IObject, ReserveError> {
     let pairs = object.into_iter();
     match way {
@@ -102,7 +96,6 @@ pub fn through_map(alloc: Global, object: IObject, way: Way) -> Result<IObject, 
     }
 }
 
-/// Returns the object that `way` creates from the entries that `letters` denote.
 fn created(rt: &impl Abort, alloc: Global, way: Way, letters: &str) -> IObject {
     match way {
         Pairs => {

@@ -27,17 +27,13 @@ static ENTRIES: [(&str, &str); 2] = [
     ),
 ];
 
-/// The debug output of iterators over three entries, whose keys are not sorted.
-///
-/// The iterators are `iter` before and after its first entry, and `into_iter` after its first
-/// entry.
+/// The debug output of `iter` before and after its first entry, and of `into_iter` after it.
 static ITERATED: [&str; 3] = [
     r#"[("c", 0), ("a \"long\" key\n", 1), ("b", 2)]"#,
     r#"[("a \"long\" key\n", 1), ("b", 2)]"#,
     r#"IntoIter([("a \"long\" key\n", 1), ("b", 2)])"#,
 ];
 
-/// Asserts the debug output of iterators over `object`, before or after they yield the first entry.
 fn iterators_are_shown(rt: &impl Abort, alloc: Global, object: IObject) {
     let mut pairs = object.iter();
     is_shown(rt, alloc, &pairs, ITERATED[0]);
@@ -49,7 +45,6 @@ fn iterators_are_shown(rt: &impl Abort, alloc: Global, object: IObject) {
     drop(pairs);
 }
 
-/// Asserts that the `Entry` of the key `name` has the debug output `want`.
 fn entry_is_shown(rt: &impl Abort, alloc: Global, object: &mut IObject, name: &str, want: &str) {
     let copy = key(rt, alloc, name);
     let entry = object.entry_or_clone(&copy).expect(rt, "room");

@@ -1,6 +1,5 @@
-//! Tests of objects of each small size.
-//!
-//! No clause states that a call succeeds if memory is available, so each small size is tried.
+//! Tests of objects of each small size, since no clause states that a call succeeds if memory is
+//! available.
 
 use super::Pair;
 use super::created::{Way, through_map};
@@ -31,11 +30,9 @@ fn pairs_of(rt: &impl Abort, alloc: Global, count: usize) -> Vec<Pair> {
     pairs
 }
 
-/// Returns the object of the entries of the numbers below `count`.
-///
-/// The object reuses the list. Creating it allocates a block if there are entries, and another
-/// block for the slots of more than 8 entries. Of up to 100 keys, so few collide that the slots are
-/// not filled by sorting.
+/// Returns the object of the numbers below `count`, which reuses the list. The object allocates a
+/// block unless it is empty, and another for the slots of more than 8 entries. Up to 100 keys
+/// collide so rarely that the slots are not filled by sorting.
 fn object_of(rt: &impl Abort, alloc: Global, count: usize) -> IObject {
     let pairs = pairs_of(rt, alloc, count);
     let object = match count {
@@ -53,10 +50,7 @@ fn object_of(rt: &impl Abort, alloc: Global, count: usize) -> IObject {
     }
 }
 
-/// Asserts that `object` has the entries of the numbers below `count` in order, and the capacity
-/// `capacity`.
-///
-/// A lookup must find each entry at its index.
+/// Asserts that `object` has the numbers below `count` in order, by iteration and by lookup.
 fn is_numbered(rt: &impl Abort, object: &IObject, count: usize, capacity: usize) {
     assert!(*rt; object.len() == count && object.capacity() == capacity);
     for (number, (key, value)) in object.iter().enumerate() {
@@ -64,9 +58,7 @@ fn is_numbered(rt: &impl Abort, object: &IObject, count: usize, capacity: usize)
     }
 }
 
-/// Reads, writes, removes and inserts the entry at `index`, by its key.
-///
-/// The calls must not allocate.
+/// Reads, writes, removes and inserts the entry at `index` by its key, without allocating.
 fn asks(rt: &impl Abort, alloc: Global, object: &mut IObject, index: usize) {
     let key = numbered(rt, alloc, index);
     begin_count(alloc);
@@ -85,10 +77,7 @@ fn asks(rt: &impl Abort, alloc: Global, object: &mut IObject, index: usize) {
     drop(key);
 }
 
-/// Creates an object of `count` entries, copies it, reserves capacity for another entry, and
-/// shrinks it.
-///
-/// The reserved capacity must be `grown`.
+/// Creates an object of `count` entries, copies it, grows its capacity to `grown`, and shrinks it.
 pub fn changes_size(rt: &impl Abort, alloc: Global, count: usize, grown: usize) {
     let mut object = object_of(rt, alloc, count);
     is_numbered(rt, &object, count, count);
@@ -119,8 +108,6 @@ pub fn each_size(rt: &impl Abort, alloc: Global, most: usize) {
 }
 
 /// Creates objects of `count` entries by `try_from_pairs`, and from each kind of map.
-///
-/// After an error, `try_from_pairs` is called again with the list that the error contains.
 pub fn creates(rt: &impl Abort, alloc: Global, count: usize) {
     let pairs = pairs_of(rt, alloc, count);
     let object = match IObject::try_from_pairs(alloc, pairs) {
@@ -143,9 +130,7 @@ fn character(rt: &impl Abort, alloc: Global, number: u16) -> IString {
     key(rt, alloc, character.encode_utf8(&mut [0; 4]))
 }
 
-/// Inserts the entry of `number` into `object`.
-///
-/// If an allocation fails, the object must be full, and the insertion is repeated.
+/// Inserts the entry of `number`, which may fail only if `object` is full.
 fn puts(rt: &impl Abort, alloc: Global, object: &mut IObject, number: u16) {
     let former = object.insert(character(rt, alloc, number), IValue::from(number));
     if let Some(RefusedPair { key, value, why }) = former.err() {

@@ -1,7 +1,6 @@
-//! Tests of writing through mutable references, with the signatures of the Rust crate `ijson`.
-//!
-//! The contract of each caller states the whole new value. `set_pair`, `set_inside` and
-//! `turn_truth` are proved by hand; the functions that call them need no such proof.
+//! Tests of writing through mutable references, with the signatures of the Rust crate `ijson`. The
+//! contract of each caller states the whole new value. `set_pair`, `set_inside` and `turn_truth`
+//! are proved by hand; the functions that call them need no such proof.
 ghost use Rattle.std.specs.Prelude.{◌≡◌, ◌≢◌, Bool, true, not, IfOk, IfErr, IfSome, OnOk, IsTrue, IsFalse, IsSome, Some, None};
 ghost use Rattle.std.specs.Option.{ghost_name_of};
 ghost use Rattle.std.specs.String.{string_bytes};
@@ -28,14 +27,12 @@ use crate::value::{BoolMut, Destructured, DestructuredMut, IValue, ValueIndex};
 use std::alloc::Global;
 use std::process::Abort;
 
-/// Replaces the value in `place` by true.
 fn put_true(place: &mut IValue)
     ensures { place.new ≡ boolean_value true }
 {
     *place = IValue::TRUE;
 }
 
-/// Replaces the content in `place` by true.
 fn put_true_opened(place: &mut Destructured)
     ensures { node_value place.new ≡ boolean_value true }
 {
@@ -96,8 +93,7 @@ fn set_found(object: &mut IObject, letters: &str) {
     }
 }
 
-/// Replaces the value at the index or key `index`, if any, by true. The rest of `value` is
-/// unchanged.
+/// Replaces the value at the index or key `index`, if any, by true.
 fn set_inside<I: ValueIndex>(value: &mut IValue, index: I)
     requires { kind_of value.old.tree ≡ kind_for (I.Sealed.step index) }
     ensures there { IsSome (tree_at value.old.tree (I.Sealed.step index))
@@ -126,8 +122,7 @@ fn with_true(alloc: Global, text: &str, pointer: &str) -> Result<String, JsonErr
     }
 }
 
-/// Sets the value of `key` to true by calling `IValue::get_mut`, and returns `true` if the key
-/// exists.
+/// Sets the value of `key` to true by `IValue::get_mut`, and returns `true` if the key exists.
 #[tactic(auto, using(ijson_value::specs::laws::Steps::tree_with_step))]
 fn set_by_path(value: &mut IValue, key: &str) -> bool
     requires { kind_of value.old.tree ≡ kind_for (by_key key.now) }
@@ -143,11 +138,8 @@ fn set_by_path(value: &mut IValue, key: &str) -> bool
     }
 }
 
-/// Sets the value of `key` to true by calling `IValue::index_or_insert`, which appends a missing
-/// key.
-///
-/// If the capacity for a missing key cannot be reserved, the key is returned with null, and `value`
-/// is unchanged.
+/// Sets the value of `key` to true by `IValue::index_or_insert`, which appends a missing key. An
+/// error returns the key with null, and leaves `value` unchanged.
 #[tactic(auto, using(crate::proofs::test_lemmas::PutInside::is_kept_inside))]
 fn put_by_path(value: &mut IValue, key: IString) -> Result<(), RefusedPair>
     requires { kind_of value.old.tree ≡ kind_for (by_key key) }
@@ -201,8 +193,7 @@ static WRITTEN: [(&str, bool, &str); 3] = [
     ("c", false, r#"{"a":1,"b":[2],"c":true}"#),
 ];
 
-/// Asserts that each call that returns a key with a mutable value finds `letters` exactly if
-/// `there` is set.
+/// Asserts that each call for a key with a mutable value finds `letters` exactly if `there` is set.
 fn is_beside(rt: &impl Abort, object: &mut IObject, letters: &str, there: bool) {
     let found = object.get_key_value_mut(letters);
     assert!(*rt; matches!(found, Some((key, _)) if key.eq_str(letters)) == there);
@@ -221,8 +212,7 @@ fn object_with(rt: &impl Abort, alloc: Global, letters: &str, there: bool) -> IV
     value
 }
 
-/// Sets the value of a key to true by each call that ignores a missing key, and asserts the
-/// resulting text.
+/// Sets a value to true by each call that ignores a missing key, and asserts the resulting text.
 fn writes(rt: &impl Abort, alloc: Global, letters: &str, there: bool, want: &str) {
     let mut value = object_with(rt, alloc, letters, there);
     set_pair(value.as_object_mut().expect(rt, "an object"), letters);
@@ -242,10 +232,7 @@ fn writes(rt: &impl Abort, alloc: Global, letters: &str, there: bool, want: &str
     drop(value);
 }
 
-/// Asserts that `put_by_path` with the key `letters` changes the value of `TEXT` to `want`, and
-/// that a failed call changes nothing.
-///
-/// `there` is `true` if `TEXT` has the key.
+/// Asserts that `put_by_path` changes `TEXT` to `want`, and that a failed call changes nothing.
 fn puts(rt: &impl Abort, alloc: Global, letters: &str, there: bool, want: &str) {
     let mut value = object_with(rt, alloc, letters, there);
     if let Err(refused) = put_by_path(&mut value, key(rt, alloc, letters)) {
@@ -273,7 +260,6 @@ static TURNED: [(&str, &str); 7] = [
     ("[true]", "[true]"), (r#"{"true":true}"#, r#"{"true":true}"#),
 ];
 
-/// Checks that a Boolean is negated, and that a value of another kind is unchanged.
 #[test]
 fn truth_values_turned(rt: HostRuntime) {
     for &(text, want) in &TURNED {
@@ -284,7 +270,6 @@ fn truth_values_turned(rt: HostRuntime) {
     }
 }
 
-/// Checks that the text contains true in place of the value at a pointer.
 #[test]
 fn texts_with_another_value(rt: HostRuntime) {
     let written = granted!(&rt; JsonError::Memory; with_true(rt.alloc(), TEXT, "/b/0"));

@@ -1,6 +1,4 @@
-//! Tests of a cache by scripts of calls, with the number of allocations of each call.
-//!
-//! After a failed allocation, the cache must be unchanged.
+//! Tests of a cache by scripts of calls. A failed allocation must leave the cache unchanged.
 use self::Call::{Clear, Intern, Show};
 use crate::string::IString;
 use crate::tests::caches::{Cache, empty_cache, interned};
@@ -10,7 +8,6 @@ use std::alloc::{AllocError, Global};
 use std::hash::{BuildHasher, BuildHasherDefault, DefaultHasher};
 use std::process::Abort;
 
-/// A call on a cache of strings.
 enum Call {
     /// Interns this string with this number of allocations.
     Intern(&'static str, u8),
@@ -49,9 +46,7 @@ static SCRIPTS: [&[(Call, usize)]; 2] = [
     ],
 ];
 
-/// Interns `letters` again, and asserts that the result and a copy are equal to `text`.
-///
-/// The calls must not allocate.
+/// Interns `letters` again, without allocating, and compares the result and a copy with `text`.
 fn again(rt: &impl Abort, cache: &mut Cache, text: &IString, letters: &str) -> IString {
     let (before, hasher) = (cache.len(), BuildHasherDefault::<DefaultHasher>::new());
     let again = IString::intern(cache, letters).expect(rt, "a text");
@@ -73,8 +68,6 @@ fn state(cache: &Cache, letters: &str) -> (usize, [bool; 4]) {
 type Texts = (IString, IString);
 
 /// Interns `letters` with `blocks` allocations, and then again without an allocation.
-///
-/// If an allocation fails, the cache must be unchanged, and the call is repeated.
 fn intern(rt: &impl Abort, alloc: Global, cache: &mut Cache, letters: &str, blocks: u8) -> Texts {
     let before = state(cache, letters);
     let text = counted!(alloc; blocks; match IString::intern(cache, letters) {
@@ -98,9 +91,7 @@ fn is_printed(rt: &impl Abort, alloc: Global, text: &IString, letters: &str) {
     assert!(*rt; printed == want);
 }
 
-/// Makes the calls of `script` on an empty cache.
-///
-/// The string that was interned last must outlive the cache.
+/// Makes the calls of `script` on an empty cache. The last string must outlive the cache.
 fn runs(rt: &impl Abort, alloc: Global, script: &[(Call, usize)]) {
     let mut cache = counted!(alloc; empty_cache(alloc));
     let mut texts = counted!(alloc; (IString::new(), IString::default()));
@@ -131,11 +122,9 @@ fn scripts(rt: HostRuntime) {
     }
 }
 
-/// Returns the number of allocations for a string of `length` bytes that is the `count`-th of a new
-/// cache.
-///
-/// The first string allocates three lists of the cache. Two of these lists double when they contain
-/// 4, 8, 16, 32, 64 or 128 strings, and the third doubles at 64 and 128 strings.
+/// Returns the number of allocations for a string of `length` bytes, the `count`-th of a new cache.
+/// The first string allocates three lists. Two of these lists double at 4, 8, 16, 32, 64 and 128
+/// strings, and the third at 64 and 128 strings.
 fn blocks(length: usize, count: usize) -> u8 {
     let lists = match count {
         1 | 65 | 129 => 3,
@@ -175,9 +164,8 @@ fn intern_prefixes(
     }
 }
 
-/// Interns the first `count` prefixes of `text` in a new cache, and again after `clear`.
-///
-/// `clear` keeps the capacity, so the lists of the cache do not grow again.
+/// Interns the first `count` prefixes of `text` in a new cache, and again after `clear`, which
+/// keeps the capacity of the cache.
 pub(super) fn run_prefixes(rt: &impl Abort, alloc: Global, text: &str, count: usize, prints: bool) {
     let mut cache = empty_cache(alloc);
     intern_prefixes(rt, alloc, &mut cache, (text, count), (true, prints));

@@ -1,6 +1,5 @@
-//! Tests of how many strings are hashed, by scripts that intern the digits of numbers.
-//!
-//! Strings that repeat in the same order are rarely hashed from the third pass on.
+//! Tests of how many strings are hashed, by scripts that intern the digits of numbers. Strings that
+//! repeat in the same order are rarely hashed from the third pass on.
 use self::Call::{Clear, Down, Records, Up, UpDown};
 use crate::string::{IString, StringCache};
 use crate::tests::caches::interned;
@@ -15,19 +14,15 @@ pub(super) enum Call {
     /// No numbers; the cache is cleared.
     Clear,
     Down,
-    /// The numbers below half the count, each followed by a unique number. The unique numbers start
-    /// at this number.
+    /// The numbers below half the count, each followed by a unique number, from this number on.
     Records(usize),
     Up,
     /// The numbers below half the count, ascending and then descending.
     UpDown,
 }
 
-/// A call, its count of strings, a bound for the number of strings that it hashes, and the number
-/// of strings in the cache after it.
-///
-/// The numbers are multiplied by a unit, so that a script can run with few or with many strings. A
-/// call may hash two strings more than the multiplied bound.
+/// A call, its count of strings, a bound for the strings hashed, and the number of strings in the
+/// cache after it. A run multiplies all three by a unit, and allows two more strings to be hashed.
 pub(super) type Row = (Call, usize, usize, usize);
 
 pub(super) static SCRIPTS: [&[Row]; 4] = [
@@ -70,10 +65,8 @@ impl Hasher for OneHash {
     fn write(&mut self, _bytes: &[u8]) {}
 }
 
-/// Counts the strings that are hashed.
-///
-/// In contracts the content of a `Cell` is not part of a value, so `build_hasher` does not change
-/// this value.
+/// Counts the strings that are hashed. In contracts the content of a `Cell` is not part of a value,
+/// so `build_hasher` does not change this value.
 #[derive(Drop)]
 struct Counting<'a, S> {
     hashed: &'a Cell<usize>,
@@ -103,9 +96,7 @@ fn number_at(call: Call, count: usize, index: usize) -> usize {
     }
 }
 
-/// Interns the digits of each number of `call`.
-///
-/// A string that is hashed again after a failed allocation counts once.
+/// Interns the digits of each number of `call`. A string hashed again after an error counts once.
 fn intern_each<S: BuildHasher>(
     rt: &impl Abort,
     alloc: Global,
@@ -129,10 +120,8 @@ fn intern_each<S: BuildHasher>(
     }
 }
 
-/// Makes the calls of `script` on an empty cache, with all counts multiplied by `unit`.
-///
-/// After each call, a cache of `n` strings must contain the digits of 0, unless `n` is 0, but must
-/// not contain the digits of `n`.
+/// Makes the calls of `script` on an empty cache, with all counts multiplied by `unit`. A cache of
+/// `n` strings must contain the digits of 0, unless `n` is 0, but not the digits of `n`.
 pub(super) fn runs<S: BuildHasher + Drop>(
     rt: &impl Abort,
     alloc: Global,

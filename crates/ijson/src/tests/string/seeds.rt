@@ -8,9 +8,8 @@ use std::io::ErrorKind;
 use std::process::Abort;
 use std::random::RandomSource;
 
-/// A random source that returns `bytes` and then zeros, and counts the bytes that it returned.
-///
-/// A source without bytes fails.
+/// A random source that returns `bytes` and then zeros, and counts the bytes that it returned. A
+/// source without bytes fails.
 #[derive(Drop)]
 struct Bytes<'a> {
     bytes: &'a [u8],

@@ -14,8 +14,7 @@ enum Property {
     Debug(&'static str),
     /// The string is less than this string.
     Less(&'static str),
-    /// The length of an inline string and the string padded with zeros to 7 bytes, or `None` for a
-    /// boxed string.
+    /// The length of an inline string, and the string padded with zeros; `None` if it is boxed.
     Padded(Option<(u8, &'static str)>),
     /// The output with a width of 10, aligned right.
     Wide(&'static str),

@@ -1,14 +1,10 @@
-//! Tests of numbers of inspections.
-//!
-//! Tables are built from lists of keys that were chosen to collide; tables also grow and shrink.
+//! Tests of numbers of inspections, with keys that were chosen to collide.
 
 use super::sizes::{built, listed};
 use super::*;
 
-/// A hash that is 2,560 times the upper half of the fixed hash.
-///
-/// If 2,560 is a multiple of the number of slots, all keys have the first slot as their home slot.
-/// Few hashes are equal.
+/// A hash that is 2,560 times the upper half of the fixed hash. If 2,560 is a multiple of the
+/// number of slots, all keys have the first slot as their home slot, although few hashes are equal.
 #[derive(Drop)]
 pub struct Multiples;
 
@@ -34,18 +30,13 @@ pub enum Chosen {
     TwinsAgain,
     /// Half as many strings as `Twins`, each twice in a row.
     TwinsInARow,
-    /// A key of each length, followed by a second key of each length, from the longest on.
-    ///
-    /// Inserted one by one, a second key takes two inspections, and moves two residents for each
-    /// greater length.
+    /// A key of each length, then a second key of each length, from the longest on. Inserted one by
+    /// one, a second key takes two inspections, and moves two residents for each greater length.
     Lengths,
 }
 
-/// Two strings that the fixed hash does not distinguish: from any state, both lead to the same
-/// state.
-///
-/// The bytes of both strings, weighted by the powers of the prime of the hash, have the same sum
-/// modulo `2 ^ 64`.
+/// Two strings that the fixed hash does not distinguish, from any state: their bytes, weighted by
+/// the powers of the prime of the hash, have the same sum modulo `2 ^ 64`.
 static TWINS: [&str; 2] = ["aacekgaaaapa", "biaaaaocsnar"];
 
 /// Returns a string of 11 twins: one of `TWINS` for each of the lowest bits of `number`.
@@ -93,9 +84,8 @@ fn build<H: KeyHash>(
     Ok((table, looks.count()))
 }
 
-/// Asserts that a table built from a list has the entries of a list filled by insertions.
-///
-/// Returns the number of inspections that building the table takes.
+/// Asserts that a table built from a list has the entries of a list filled by insertions. Returns
+/// the number of inspections for the table.
 pub fn inspections<H: KeyHash + Drop>(rt: &impl Host, chosen: Chosen, count: usize) -> u128 {
     let pairs = chosen_list(rt, chosen, count);
     let mut list: LinearPairs<u64> = roomy(rt, count);
@@ -110,17 +100,12 @@ pub fn inspections<H: KeyHash + Drop>(rt: &impl Host, chosen: Chosen, count: usi
     looks
 }
 
-/// Asserts the bounds of the number of inspections for a list whose table is built by sorting.
+/// Asserts bounds of the number of inspections for a list whose table is built by sorting.
 ///
-/// `count` must be a power of two: `2 ^ halvings`.
-///
-/// - The maximum is 36 inspections per entry, and two more per entry and halving.
-/// - The minimum is 33 inspections per entry, and half a comparison more per entry and halving. 32
-///   of the inspections are the steps before sorting, and the 33rd is at the first entry of each
-///   key.
-///
-/// If keys are repeated consecutively, fewer entries are sorted, but each takes more than the
-/// minimum.
+/// `count` must be `2 ^ halvings`. The maximum per entry is 36, and two more per halving. The
+/// minimum per entry is 33 (32 steps before sorting, and one at the first entry of each key), and
+/// half a comparison more per halving. If keys are repeated consecutively, fewer entries are
+/// sorted, but each takes more than the minimum.
 pub fn is_sorted<H: KeyHash + Drop>(rt: &impl Host, chosen: Chosen, count: usize) {
     let looks = inspections::<H>(rt, chosen, count);
     let (entries, halvings) = (count as u128, u128::from(count.max(1).ilog2()));
@@ -140,11 +125,9 @@ fn steps_of(table: &mut Crowded, is_doubled: bool) -> Result<u128, ReserveError>
 }
 
 /// Asserts the number of steps for doubling the capacity of a table of `count` entries, and for
-/// shrinking it.
-///
-/// If entries are inserted one by one, an entry inspects the slots of the entries before it and an
-/// empty slot, and writes the empty slot. After 32 steps per entry of the new capacity, all entries
-/// are sorted instead. Merging two halves takes one comparison for each entry of the left half.
+/// shrinking it. Inserted one by one, an entry inspects the slots of the entries before it and an
+/// empty slot, which it writes. After 32 steps per entry of the new capacity, all entries are
+/// sorted instead. Merging two halves takes one comparison for each entry of the left half.
 pub fn takes_steps(rt: &impl Host, count: u16, grown: u128, shrunk: u128) {
     let pairs = listed(rt, count.saturating_sub(1), false);
     let mut table = granted!(rt; ReserveError::Memory; built(rt, &pairs, false));
@@ -156,15 +139,12 @@ pub fn takes_steps(rt: &impl Host, count: u16, grown: u128, shrunk: u128) {
     drop(pairs);
 }
 
-/// Checks the numbers of inspections for 64 keys, and for resizing a table of 200 entries.
-///
-/// The number 378 was computed without this library, from the fixed hashes of the numbers.
-///
-/// A key inspects the slots from its home slot to the empty slot that is written last. The slot at
-/// which its probe ends counts twice.
+/// The number 378 was computed without this library, from the fixed hashes of the numbers. A key
+/// inspects the slots from its home slot to the empty slot that is written last. The slot at which
+/// its probe ends counts twice.
 ///
 /// With one home slot, the first 159 entries exceed 32 steps per entry of the new capacity in
-/// growth, and the first 112 entries do in shrinking. Sorting 200 entries takes 732 comparisons.
+/// growth, and the first 112 in shrinking. Sorting 200 entries takes 732 comparisons.
 #[test]
 fn inspections_are_counted(rt: HostRuntime) {
     assert!(rt; inspections::<FixedHash>(&rt, Chosen::Digits, 64) == 378);

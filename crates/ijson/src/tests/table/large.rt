@@ -39,13 +39,10 @@ fn long_lists_of_commands(rt: HostRuntime) {
     clears(&rt, 2_000_000);
 }
 
-/// Checks the numbers of inspections for 2,048 keys, and for resizing a table of 4,000 entries.
-///
 /// The number 13,560 was computed without this library, from the fixed hashes of the numbers.
 /// Inserting the keys of any other list one by one takes at least a million inspections and writes.
-///
 /// With one home slot, 4,000 entries take 8,006,000 steps. The first 715 entries exceed 32 steps
-/// per entry of the new capacity in growth, and the first 505 entries do in shrinking.
+/// per entry of the new capacity in growth, and the first 505 in shrinking.
 #[test]
 fn inspections_are_counted(rt: HostRuntime) {
     assert!(rt; inspections::<FixedHash>(&rt, Chosen::Digits, 2048) == 13_560);

@@ -3,8 +3,7 @@
 use super::Step::*;
 use super::*;
 
-/// Steps on a new store, each with the debug output of its reply, and the length and capacity after
-/// it.
+/// Steps on a new store, each with its reply's debug output, and the length and capacity after it.
 #[rattlefmt::skip]
 static STEPS: [(Step, &str, usize, usize); 81] = [
     // the fifth key doubles the capacity to eight
@@ -17,8 +16,7 @@ static STEPS: [(Step, &str, usize, usize); 81] = [
     (Remove("e"), "Removed(Some((\"e\", 4)))", 3, 8), (Remove("a"), "Removed(Some((\"a\", 0)))", 2, 8),
     (Find("d"), "Found(Some(0))", 2, 8), (Find("c"), "Found(Some(1))", 2, 8),
     (ShiftRemove("b"), "Removed(None)", 2, 8), (Remove("b"), "Removed(None)", 2, 8),
-    // `Shrink` reduces the capacity to the length, `Reserve` fails over the limit, and `Clear`
-    // keeps the capacity
+    // `Shrink` drops spare capacity, `Reserve` fails over the limit, and `Clear` keeps the capacity
     (Shrink, "Done", 2, 2), (Reserve(usize::MAX), "NotDone(TooLarge)", 2, 2), (Clear, "Done", 0, 2),
     (Shrink, "Done", 0, 0),
     // two of three entries remain
@@ -37,8 +35,7 @@ static STEPS: [(Step, &str, usize, usize); 81] = [
     (Put("c", 2), "Added", 3, 4), (Put("d", 3), "Added", 4, 4), (Reserve(1), "Done", 4, 8), (Shrink, "Done", 4, 4),
     (Put("a", 0), "Replaced(0)", 4, 4), (Put("e", 4), "Added", 5, 8), (Put("f", 5), "Added", 6, 8),
     (Put("g", 6), "Added", 7, 8), (Put("h", 7), "Added", 8, 8), (Put("i", 8), "Added", 9, 16),
-    // `Reserve` keeps, doubles or more than doubles the capacity; `Shrink` removes all spare
-    // capacity
+    // `Reserve` keeps, doubles or more than doubles the capacity; `Shrink` drops spare capacity
     (Reserve(7), "Done", 9, 16), (Reserve(8), "Done", 9, 32), (Reserve(60), "Done", 9, 69), (Shrink, "Done", 9, 9),
     (Find("i"), "Found(Some(8))", 9, 9), (Clear, "Done", 0, 9), (Shrink, "Done", 0, 0),
     // without spare capacity, the order of three entries is changed and restored
@@ -126,8 +123,7 @@ fn step(rt: &impl Host, number: u64) -> Step {
     }
 }
 
-/// Asserts that a store and a list agree on each of `count` pseudorandom steps, for the seed
-/// `seed`.
+/// Asserts that a store and a list agree on each of `count` pseudorandom steps.
 fn agrees<S: Store>(rt: &impl Host, seed: u64, count: usize, way: Way) {
     let (mut store, mut list) = (S::new(rt.alloc()), LinearPairs::new(rt.alloc()));
     let (mut state, factor) = (seed, 6_364_136_223_846_793_005);
@@ -146,8 +142,7 @@ fn agrees<S: Store>(rt: &impl Host, seed: u64, count: usize, way: Way) {
     drop(list);
 }
 
-/// Asserts that each kind of store agrees with a list on `count` steps, for each seed below
-/// `seeds`.
+/// Asserts that each store agrees with a list on `count` steps, for each seed below `seeds`.
 pub fn all_agree(rt: &impl Host, seeds: u64, count: usize) {
     for seed in 0..seeds {
         each_store!(agrees(rt, seed, count, Way::Run));

@@ -39,8 +39,7 @@ fn errors_tell_the_reason(rt: HostRuntime) {
     drop(back);
 }
 
-/// Steps of a run within the initial capacity, each with the debug output of its command and of its
-/// reply.
+/// Steps within the initial capacity, each with the debug output of its command and its reply.
 static RUN: [(Step, &str, &str); 9] = [
     (Put("a", 1), "Insert(\"a\", 1)", "Added"),
     (Put("a", 2), "Insert(\"a\", 2)", "Replaced(1)"),
@@ -88,9 +87,8 @@ const LINES: &str = r#"{
     "b": 3,
 }"#;
 
-/// Asserts the debug output of a store, in one line and with a line for each entry.
-///
-/// The keys are not sorted. The second key is boxed, and has characters that are escaped.
+/// Asserts the debug output of a store, in one line and with a line for each entry. The keys are
+/// not sorted; the second key is boxed and has characters that are escaped.
 fn is_shown_so<S: Store>(rt: &impl Host) {
     let mut store = S::new(rt.alloc());
     is_shown(rt, rt.alloc(), &store, "{}");

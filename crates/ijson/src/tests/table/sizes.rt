@@ -1,14 +1,11 @@
-//! Tests of stores of many sizes that grow, shrink and are copied.
-//!
-//! Many sizes are tried, since no clause states that a call succeeds if memory is available.
+//! Tests of stores of many sizes that grow, shrink and are copied. Many sizes are tried, since no
+//! clause states that a call succeeds if memory is available.
 
 use super::Step::*;
 use super::*;
 
-/// A hash that is 2500 for a key of even length, and 1 for a key of odd length.
-///
-/// In a table of 2,500 slots, the home slots are 0 for keys of even length and 1 for keys of odd
-/// length. In a table of 5,000 slots, they are 2500 and 1.
+/// A hash that is 2500 for a key of even length, and 1 for odd length. The home slots are 0 and 1
+/// in a table of 2,500 slots, but 2500 and 1 in a table of 5,000 slots.
 #[derive(Drop)]
 pub struct ByParity;
 
@@ -22,9 +19,8 @@ impl KeyHash for ByParity {
     }
 }
 
-/// Returns the entries of the numbers from 0 to `count`, each with a different key.
-///
-/// If `is_mixed` is set, the keys of even numbers below `count` are longer.
+/// Returns the entries of the numbers from 0 to `count`. If `is_mixed` is set, the keys of even
+/// numbers below `count` are longer.
 pub fn listed(rt: &impl Host, count: u16, is_mixed: bool) -> Vec<Entry> {
     let mut pairs = granted!(rt; Vec::with_capacity(rt.alloc(), usize::from(count) + 1));
     for number in 0..=count {
@@ -35,8 +31,7 @@ pub fn listed(rt: &impl Host, count: u16, is_mixed: bool) -> Vec<Entry> {
     pairs
 }
 
-/// Adds `pairs` within the capacity of `store`: by `insert` if `inserts` is set, otherwise by
-/// `push_new`.
+/// Adds `pairs` within the capacity of `store`: by `insert` if `inserts`, otherwise by `push_new`.
 pub fn fill<S: Store>(rt: &impl Host, store: &mut S, pairs: &[Entry], inserts: bool) {
     for (key, value) in pairs {
         let key = key.clone().expect(rt, "a key");
@@ -58,10 +53,7 @@ fn is_kept<S: Store>(rt: &impl Host, store: &S, pairs: &[Entry], capacity: usize
     }
 }
 
-/// Asserts that `store` keeps its entries when it grows and shrinks, and that an entry can be
-/// added.
-///
-/// `store` must contain all of `pairs` except the last, which is added at the end.
+/// Asserts that `store`, with all but the last of `pairs`, can grow, shrink and add the last.
 fn resizes<S: Store>(rt: &impl Host, mut store: S, pairs: &[Entry], capacity: usize) {
     let (last, before) = pairs.split_last().expect(rt, "an entry");
     let (number, len) = (u16::try_from(last.1).expect(rt, "a number"), before.len());
@@ -76,9 +68,8 @@ fn resizes<S: Store>(rt: &impl Host, mut store: S, pairs: &[Entry], capacity: us
     drop(store);
 }
 
-/// Calls `resizes` for a store with the capacity `capacity` and `count` entries.
-///
-/// If `is_mixed` is set, the keys have two lengths, and `insert` adds the entries.
+/// Calls `resizes` for a store with the capacity `capacity` and `count` entries. If `is_mixed` is
+/// set, the keys have two lengths, and `insert` adds the entries.
 pub fn fills<S: Store>(rt: &impl Host, count: u16, capacity: usize, is_mixed: bool) {
     let pairs = listed(rt, count, is_mixed);
     let (_, before) = pairs.split_last().expect(rt, "an entry");
@@ -102,9 +93,7 @@ pub fn built<H: KeyHash>(
     Table::from_pairs(rt.alloc(), list)
 }
 
-/// Calls `resizes` for a table built from `count` entries.
-///
-/// If `again` is set, the first entry occurs once more at the end of the list.
+/// Calls `resizes` for a table built from `count` entries, and from the first again if `again`.
 pub fn builds<H: KeyHash + Drop>(rt: &impl Host, count: u16, again: bool) {
     let pairs = listed(rt, count, false);
     let (_, before) = pairs.split_last().expect(rt, "an entry");
@@ -144,9 +133,8 @@ fn more_entries(rt: HostRuntime) {
     }
 }
 
-/// Asserts that a new store grows to `capacity` and shrinks, and can be created with `capacity`.
-///
-/// Creating a store with a capacity over the limit must fail.
+/// Asserts that a new store grows to `capacity` and shrinks, and can be created with `capacity`,
+/// but not with a capacity over the limit.
 pub fn grows_far<S: Store>(rt: &impl Host, capacity: usize) {
     let mut store = S::new(rt.alloc());
     replies(rt, &mut store, Reserve(capacity), Way::Run, "Done");
@@ -169,10 +157,8 @@ fn put_digits(rt: &impl Host, table: &mut Fixed, number: u64) -> Result<Option<u
     Ok(table.insert(key, number)?)
 }
 
-/// Asserts that a table of the numbers below `count` has the capacity `capacity`, and keeps them
-/// when it shrinks.
-///
-/// `digits` must be the digits of the last two numbers and of `count`, which is missing.
+/// Asserts that a table of the numbers below `count` has the capacity `capacity` and can shrink.
+/// `digits` are the keys of the last two numbers, and the missing key of `count`.
 pub fn takes_many(rt: &impl Host, count: usize, capacity: usize, digits: [&str; 3]) {
     let mut table = Fixed::new(rt.alloc());
     for number in 0..count as u64 {

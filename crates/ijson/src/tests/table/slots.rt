@@ -5,7 +5,6 @@ use super::sizes::{fill, listed};
 use super::*;
 
 /// Returns `true` if each lookup of `key` finds the index `at`, or no entry if `at` is `None`.
-///
 /// `locate` and `get_counted` must make `count` inspections each.
 fn finds<H: KeyHash>(table: &Table<u64, H>, key: &str, at: Option<usize>, count: u128) -> bool {
     if table.len() > 1000 {
@@ -18,8 +17,7 @@ fn finds<H: KeyHash>(table: &Table<u64, H>, key: &str, at: Option<usize>, count:
         && [looks.count(), looks_of_get.count()] == [count, count]
 }
 
-/// Returns `true` if the slots of `table` contain the indices `positions`, with 9 for an empty
-/// slot.
+/// Returns `true` if the slots of `table` contain `positions`, with 9 for an empty slot.
 fn has_positions<P: Places>(table: &P, positions: &[usize]) -> bool {
     if table.places() != positions.len() {
         return false;
@@ -36,8 +34,7 @@ fn has_positions<P: Places>(table: &P, positions: &[usize]) -> bool {
     true
 }
 
-/// A step, the debug output of its reply, the indices in the slots after it, and the number of
-/// inspections if the step is `Find`.
+/// A step, its reply's debug output, the indices in the slots, and the inspections of a `Find`.
 type Worked = (Step, &'static str, &'static [usize], u128);
 
 const A_REMOVED: &str = "Removed(Some((\"a\", 0)))";
@@ -90,9 +87,7 @@ static ONE_SLOT: [Worked; 3] = [
     (Find("b"), "Found(None)", &[0], 1),
 ];
 
-/// Steps on a table that is created with capacity for three entries.
-///
-/// All slots are filled, and a removal empties the last slot.
+/// Steps on a table that is created with capacity for three entries, so that all slots are filled.
 static THREE_SLOTS: [Worked; 7] = [
     (Put("a", 0), "Added", &[0, 9, 9], 0),
     (Put("b", 1), "Added", &[0, 1, 9], 0),
@@ -103,8 +98,7 @@ static THREE_SLOTS: [Worked; 7] = [
     (Find("b"), "Found(Some(1))", &[1, 0, 9], 1),
 ];
 
-/// Steps on a table of five slots, in which `FixedHash` selects the home slots 2, 3, 4 and 0 for a,
-/// b, c and d.
+/// Steps on a table of five slots. `FixedHash` selects the home slots 2, 3, 4, 0 for a, b, c, d.
 static HOMES_OF_FIVE: [Worked; 5] = [
     (Put("a", 0), "Added", &[9, 9, 0, 9, 9], 0),
     (Put("b", 1), "Added", &[9, 9, 0, 1, 9], 0),
@@ -113,8 +107,7 @@ static HOMES_OF_FIVE: [Worked; 5] = [
     (Find("d"), "Found(Some(3))", &[3, 9, 0, 1, 2], 1),
 ];
 
-/// Steps on a table of three slots, in which `FixedHash` selects the home slots 1, 2, 0 and 0 for
-/// a, b, c and d.
+/// Steps on a table of three slots. `FixedHash` selects the home slots 1, 2, 0, 0 for a, b, c, d.
 static HOMES_OF_THREE: [Worked; 5] = [
     (Put("a", 0), "Added", &[9, 0, 9], 0),
     (Put("b", 1), "Added", &[9, 0, 1], 0),
@@ -146,8 +139,6 @@ fn tables_slot_by_slot(rt: HostRuntime) {
     follows::<FixedHash>(&rt, roomy(&rt, 3), &HOMES_OF_THREE);
 }
 
-/// Checks the number of slots of tables, and the fixed hash of some keys.
-///
 /// A table has five slots for every four entries of its capacity.
 #[test]
 fn hashes_and_slots(rt: HostRuntime) {
@@ -170,8 +161,6 @@ fn insertion(table: &mut Table<u64, ByLength>, key: IString) -> Result<u128, Res
     Ok(looks.count())
 }
 
-/// Checks the number of inspections of each insertion.
-///
 /// The first key is inserted twice. Filling the slots again after growth is not counted.
 #[test]
 fn insertions_count_their_looks(rt: HostRuntime) {
@@ -184,10 +173,8 @@ fn insertions_count_their_looks(rt: HostRuntime) {
     drop(table);
 }
 
-/// Checks how many slots a lookup inspects if all keys have the same home slot.
-///
-/// The lookup of a key inspects its own slot and the slots of the keys inserted before it. The
-/// lookup of a missing key inspects the slots of all keys and one more slot.
+/// With one home slot, the lookup of a key inspects its slot and the slots of the keys inserted
+/// before it. The lookup of a missing key inspects the slots of all keys and one more slot.
 #[test]
 fn lookups_count_each_slot(rt: HostRuntime) {
     for count in [20u16, 200] {
@@ -204,10 +191,8 @@ fn lookups_count_each_slot(rt: HostRuntime) {
     }
 }
 
-/// Lists of keys, whose values are their indices, each with the debug output of the table built
-/// from the list.
-///
-/// A duplicate key keeps its first index and its last value.
+/// Lists of keys, whose values are their indices, each with the debug output of its table. A
+/// duplicate key keeps its first index and its last value.
 static MADE: [(&[&str], &str); 4] = [
     (&[], "{}"),
     (&["a", "b", "c"], r#"{"a": 0, "b": 1, "c": 2}"#),

@@ -67,7 +67,6 @@ fn object_of(rt: &impl Abort, alloc: Global, values: &mut IArray, keys: &[&str])
     object
 }
 
-/// Returns the array of the numbers below `count`.
 fn numbers(rt: &impl Abort, alloc: Global, count: usize) -> IArray {
     let mut array = array_with(rt, alloc, count);
     for number in 0..count {
@@ -76,7 +75,6 @@ fn numbers(rt: &impl Abort, alloc: Global, count: usize) -> IArray {
     array
 }
 
-/// Returns the object of the numbers below `count`, with single characters as keys.
 fn characters(rt: &impl Abort, alloc: Global, count: u16) -> IObject {
     let mut object = object_with(rt, alloc, usize::from(count));
     for number in 0..count {
@@ -88,8 +86,7 @@ fn characters(rt: &impl Abort, alloc: Global, count: u16) -> IObject {
     object
 }
 
-/// Returns the value of `part`. Elements of an array and values of an object are moved out of
-/// `values`.
+/// Returns the value of `part`, whose elements or values are moved out of `values`.
 fn value_of(rt: &impl Abort, alloc: Global, values: &mut IArray, part: Part) -> IValue {
     match part {
         Part::Null => IValue::NULL,

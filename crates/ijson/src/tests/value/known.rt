@@ -1,7 +1,4 @@
 //! Tests of the properties of values of all kinds.
-//!
-//! The properties are queries, debug output, order, words for hashers, copies, and the value that
-//! remains after its content is taken or cleared.
 
 use super::built::Part::{self, Array, Bool, Characters, Null, Number, Numbers, Object, Text};
 use super::built::built;
@@ -22,9 +19,8 @@ struct Known {
     /// both are objects, which are not ordered.
     rank: usize,
     shown: &'static str,
-    /// The debug output with a width of 6, if it differs from `shown`.
-    ///
-    /// As in std, a width pads a Boolean, also in a list, but not a string.
+    /// The debug output with a width of 6, if it differs from `shown`. As in std, a width pads a
+    /// Boolean, also in a list, but not a string.
     wide: &'static [&'static str],
     /// The words that the value feeds a hasher, or an empty list if the words are not checked.
     words: &'static [u64],
@@ -38,8 +34,6 @@ macro_rules! known {
 }
 
 /// Values of all kinds, in ascending order of their ranks.
-///
-/// Debug output quotes and escapes strings like `str`.
 static KNOWN: [Known; 41] = known! {
     0: [Null] "null" [0]
     1: [Bool(false)] "false" / " false" [1, 0]
@@ -99,10 +93,8 @@ static KNOWN: [Known; 41] = known! {
     r#"{"a": 1, "b": [2, 3], "c": {"d": 0.5}}"# []
 };
 
-/// Returns the expected properties of a value whose last part is `part`.
-///
-/// The properties are the kind, the name of the kind, the length, and the debug output after the
-/// value is emptied.
+/// Returns the kind of a value with the last part `part`, the name of the kind, the length, and the
+/// debug output after the value is emptied.
 fn summary(part: Part) -> (ValueType, &'static str, Option<usize>, &'static str) {
     match part {
         Null => (ValueType::Null, "Null", None, "null"),
@@ -152,9 +144,8 @@ fn is_queried(rt: &impl Abort, value: &IValue, last: Part) {
     assert!(*rt; value.is_false() == (truth == Some(false)));
 }
 
-/// Asserts that `value`, and the array or object in it, feed a hasher exactly `words`.
-///
-/// If `words` is empty, nothing is asserted.
+/// Asserts that `value`, and the array or object in it, feed a hasher exactly `words`. If `words`
+/// is empty, nothing is asserted.
 fn feeds_whole(rt: &impl Abort, value: &IValue, words: &[u64]) {
     if words.is_empty() {
         return;
@@ -181,8 +172,7 @@ fn copies_items(rt: &impl Abort, alloc: Global, items: &[IValue]) {
     drop(array);
 }
 
-/// Asserts that a copy of `array` and a new array of its elements equal `array`, without spare
-/// capacity.
+/// Asserts that a copy of `array`, and an array of its elements, are equal and lack spare capacity.
 fn copies_array(rt: &impl Abort, alloc: Global, array: &IArray) {
     let copy = granted!(rt; array.clone());
     assert!(*rt; copy == *array && copy.capacity() == array.len());
@@ -207,9 +197,8 @@ fn copies(rt: &impl Abort, alloc: Global, value: &IValue) {
     }
 }
 
-/// Asserts that each call that copies the value `known` returns an equal copy.
-///
-/// Copying a value of one part must not allocate. At the end, a slice of two such values is copied.
+/// Asserts that each call that copies the value `known` returns an equal copy. Copying a value of
+/// one part must not allocate.
 fn is_copied(rt: &impl Abort, alloc: Global, known: &Known) {
     let value = built(rt, alloc, known.parts);
     if known.parts.len() == 1 {
@@ -222,10 +211,7 @@ fn is_copied(rt: &impl Abort, alloc: Global, known: &Known) {
     drop(items);
 }
 
-/// Asserts the debug output of the mutable content `value`.
-///
-/// The debug output of a Boolean's content contains `shown`. Other content has the debug output
-/// `want`.
+/// Asserts the debug output of mutable content: `want`, or a `BoolMut` with `shown` for a Boolean.
 fn is_shown_mutable(
     rt: &impl Abort,
     alloc: Global,
@@ -247,8 +233,7 @@ fn opened<'a>(name: &'a str, shown: &'a str) -> &'a str {
     if name == "Null" { name } else { shown }
 }
 
-/// Asserts the debug output of the content of `value`, as returned by each call that destructures
-/// it.
+/// Asserts the debug output of the content of `value`, by each call that destructures it.
 fn is_opened(rt: &impl Abort, alloc: Global, mut value: IValue, name: &str, shown: &str) {
     let text = granted!(rt; format!(in alloc; "{name}({shown})"));
     let want = opened(name, &text);
@@ -260,7 +245,6 @@ fn is_opened(rt: &impl Abort, alloc: Global, mut value: IValue, name: &str, show
     drop(content);
 }
 
-/// Asserts the debug output of `value` without a width and with a width of 6.
 fn are_shown(rt: &impl Abort, alloc: Global, value: &IValue, known: &Known) {
     is_shown(rt, alloc, value, known.shown);
     let want = *known.wide.first().unwrap_or(&known.shown);
@@ -306,8 +290,7 @@ fn objects(rt: HostRuntime) {
     are_known(&rt, rt.alloc(), &KNOWN[29..]);
 }
 
-/// Asserts that the order of two values is `want`, and that equal values have equal contents and
-/// hashes.
+/// Asserts the order of two values, and that equal values have equal contents and hashes.
 fn are_ordered(rt: &impl Abort, left: &IValue, right: &IValue, want: Option<Ordering>) {
     let is_equal = want == Some(Ordering::Equal);
     assert!(*rt; (left == right) == is_equal && (left != right) != is_equal);

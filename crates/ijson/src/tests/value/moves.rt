@@ -1,6 +1,4 @@
-//! Tests of moving values into and out of containers, and contents out of values.
-//!
-//! These moves must not allocate.
+//! Tests of moves into and out of containers, and of contents out of values, without allocations.
 
 use super::built::Part::Characters;
 use super::built::{array_with, built, insert_new, object_with};
@@ -33,9 +31,7 @@ fn capacity_given(value: IValue) -> Option<usize> {
     }
 }
 
-/// Moves the number, string, array or object out of `value` and back.
-///
-/// Returns the value, and `true` if content was moved.
+/// Moves the content out of `value` and back. Returns `true` unless `value` is null or a Boolean.
 fn handed_back(value: IValue) -> (IValue, bool) {
     let value: IValue = match value.into_number() {
         Ok(number) => return (IValue::from(number), true),
@@ -67,9 +63,8 @@ fn reopened(value: IValue) -> IValue {
     }
 }
 
-/// Asserts that taking `value`, which has the kind `kind`, leaves null. Returns the value taken.
-///
-/// The content of the value is moved out and back in two ways.
+/// Asserts that taking `value`, which has the kind `kind`, leaves null. Returns the value, after
+/// its content is moved out and back in two ways.
 pub fn is_taken(rt: &impl Abort, mut value: IValue, kind: ValueType) -> IValue {
     let taken = value.take();
     assert!(*rt; value.is_null() && is_of_kind(&taken, kind));
@@ -107,9 +102,8 @@ fn empty_part(value: &mut IValue) {
     }
 }
 
-/// Asserts that `value` has the debug output `left` after it is emptied, and keeps its capacity.
-///
-/// If `by_part` is set, `empty_part` empties the value, and a Boolean must be unchanged.
+/// Asserts that `value` has the debug output `left` after it is emptied, and keeps its capacity. If
+/// `by_part` is set, `empty_part` empties the value, and a Boolean must be unchanged.
 pub fn is_emptied(rt: &impl Abort, alloc: Global, mut value: IValue, by_part: bool, left: &str) {
     let (kind, truth, capacity) = (value.type_(), value.to_bool(), capacity_of(&value));
     if by_part {
@@ -127,9 +121,8 @@ pub fn is_emptied(rt: &impl Abort, alloc: Global, mut value: IValue, by_part: bo
     drop(value);
 }
 
-/// Moves `value` into `array` and out again, by each call that can, and returns `value`.
-///
-/// `array` must be empty and have capacity for two elements.
+/// Moves `value` into `array` and out again, by each call that can. `array` must be empty and have
+/// capacity for two elements.
 fn through_array(rt: &impl Abort, mut array: IArray, value: IValue) -> IValue {
     array.push(value).expect(rt, "room");
     array.insert(0, IValue::NULL).expect(rt, "room");
@@ -146,9 +139,8 @@ fn through_array(rt: &impl Abort, mut array: IArray, value: IValue) -> IValue {
     value
 }
 
-/// Moves `value` into `object` and out again, by each call that can, and returns `value`.
-///
-/// `object` must be empty and have capacity for an entry.
+/// Moves `value` into `object` and out again, by each call that can. `object` must be empty and
+/// have capacity for an entry.
 fn through_object(rt: &impl Abort, alloc: Global, mut object: IObject, value: IValue) -> IValue {
     insert_new(rt, &mut object, key(rt, alloc, "k"), value);
     let value = object.remove("k").expect(rt, "a value");
@@ -183,10 +175,7 @@ fn through_pairs(rt: &impl Abort, alloc: Global, mut object: IObject, value: IVa
     value
 }
 
-/// Asserts that an array or object of one number keeps the capacity `want` when it is moved and
-/// emptied.
-///
-/// The moves must not allocate.
+/// Asserts that an array or object of a number keeps its capacity when it is moved and emptied.
 fn keeps_capacity(rt: &impl Abort, alloc: Global, value: IValue, want: usize) {
     let (array, items) = (array_with(rt, alloc, 2), array_with(rt, alloc, 1));
     let (object, pairs) = (object_with(rt, alloc, 1), object_with(rt, alloc, 1));

@@ -9,8 +9,6 @@ use std::alloc::Global;
 use std::process::Abort;
 
 /// Parts of values, each with the integer that its value equals, if any.
-///
-/// The conversion to an integer type returns `None` if the type does not contain the integer.
 #[rattlefmt::skip]
 static INTEGERS: [(Part, Option<i128>); 12] = [
     (Number("2.0"), Some(2)), (Number("-1"), Some(-1)), (Number("2.5"), None), (Text("2"), None),

@@ -1,6 +1,4 @@
 //! Tests of reading, writing, removing and adding values at an index or a key.
-//!
-//! The contracts of some callers state the whole value after a write.
 ghost use Rattle.std.specs.Prelude.{◌≡◌, IsSome, IsTrue, IsFalse, not};
 ghost use Rattle.ijson_value.specs.Kind.{kind_of};
 ghost use Rattle.ijson_value.specs.declared.value.ValueType.TheVariants as kind;
@@ -53,8 +51,7 @@ fn turn(value: &mut IValue, was: bool)
     }
 }
 
-/// Sets the second element of the array at the key `b` to null, and returns `true` if the element
-/// exists.
+/// Sets the second element of the array at key `b` to null, and returns `true` if it exists.
 fn edit(value: &mut IValue) -> bool
     requires { kind_of value.old.tree ≡ kind.Object }
 {
@@ -84,8 +81,7 @@ enum Call {
     /// Writes a number at a step. The reply is the old value.
     Put(Step, usize),
     Remove(Step),
-    /// Sets the value of a key to a number; a missing key is added. The reply is the old value, or
-    /// null.
+    /// Sets the value of an old or new key to a number. The reply is the old value, or null.
     Insert(&'static str, usize),
     /// Appends a number to the array, and reverses the elements twice.
     Push(usize),
@@ -100,10 +96,8 @@ enum Call {
 use Call::{Clear, Edit, Get, Insert, Push, Put, Remove, Turn};
 use Step::{Index, Interned, Key, Reference};
 
-/// Creates a table of scripts.
-///
-/// A script has the parts of a value, calls with the debug output of their replies, and the debug
-/// output of the resulting value, or `None` if the value is unchanged.
+/// Creates a table of scripts: the parts of a value, calls with the debug output of their replies,
+/// and the debug output of the resulting value, or `None` if the value is unchanged.
 macro_rules! scripts {
     ($($parts:tt { $($call:expr => $reply:expr),* } $left:expr;)*) => {
         [$((&$parts, &[$(($call, $reply)),*], $left)),*]
@@ -169,7 +163,6 @@ macro_rules! step {
     };
 }
 
-/// Returns the value at `step` in `value`, if any.
 fn found<'a>(rt: &impl Abort, alloc: Global, value: &'a IValue, step: Step) -> Option<&'a IValue> {
     step!(rt, alloc; value.get(step))
 }
@@ -187,7 +180,6 @@ fn inserted(rt: &impl Abort, value: &mut IValue, key: IString, number: usize) ->
     replaced(value.index_or_insert(key).expect(rt, "room"), number)
 }
 
-/// Appends `number` to the array in `value`, and reverses the elements twice.
 fn pushed(rt: &impl Abort, value: &mut IValue, number: usize) -> Option<IValue> {
     let array = value.as_array_mut().expect(rt, "an array");
     array.push(IValue::from(number)).expect(rt, "room");
@@ -196,7 +188,6 @@ fn pushed(rt: &impl Abort, value: &mut IValue, number: usize) -> Option<IValue> 
     None
 }
 
-/// Makes the call `call` on `value`, and returns its reply.
 fn changed(rt: &impl Abort, alloc: Global, value: &mut IValue, call: Call) -> Option<IValue> {
     match call {
         Get(_) => None,
@@ -228,9 +219,7 @@ fn is_reply(rt: &impl Abort, alloc: Global, reply: Option<&IValue>, want: Option
     }
 }
 
-/// Asserts that the reply to `call` is `want`, and that `value` keeps its capacity.
-///
-/// The call must not allocate.
+/// Asserts that the reply to `call` is `want`, without an allocation or a change of capacity.
 fn runs(rt: &impl Abort, alloc: Global, value: &mut IValue, call: Call, want: Option<&str>) {
     let capacity = capacity_of(value);
     if let Get(step) = call {
