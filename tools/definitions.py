@@ -32,30 +32,30 @@ def defined(crate="*"):
             yield path
 
 
-def section_of(path, text):
-    """The section of a file: its first comment, and its definitions, each with its comment, or with its formula if that is one line of less than 120
-    characters, and with the example that it has in a text."""
-    examples, source = dict(re.findall(r"^- `([^` ]+).*\n  Example: (.*)", text, re.M)), path.read_text()
+def section_of(path):
+    """The section of a file: its first comment, and its definitions, each with its comment and the example at the end of it, or with its formula if there is
+    no comment and that is one line of less than 120 characters."""
+    source = path.read_text()
     yield " ".join(line[3:] for line in re.match(r"(?:-- .*\n)*", source)[0].splitlines()) + "\n"
     for name, comment in declared(path).items():
+        comment, _, example = map(str.strip, f" {comment}".partition(" e.g. "))
         formulas = re.findall(rf"^( *)({re.escape(name)}(?: [^=\n]*)? = .+)\n(\1 +\S)?", source, re.M)
         is_shown = not comment and len(formulas) == 1 and len(formulas[0][1]) < 120 and not formulas[0][2]
         line = f"- `{formulas[0][1] if is_shown else name}`" + f": {comment.rstrip('.')}." * bool(comment)
-        yield line + (f"\n  Example: {examples[name]}" if name in examples else "")
+        yield line + f"\n  Example: {example}" * bool(example)
 
 
 def described_page():
-    """The page, and its text with all definitions described by the comments in their files. Its order of files and its examples are kept."""
+    """The page, and its text with all definitions described by the comments in their files. Its order of files is kept."""
     text = PAGE.read_text()
     crates = {path.relative_to(TOP).parts[1] for path in defined()} - {crate for _, crate in SECTION.findall(text)}
     made, *parts = SECTION.split(text + "".join(f"\n## `{crate}`\n" for crate in sorted(crates)))
     for heading, crate, section in zip(parts[::3], parts[1::3], parts[2::3]):
-        _, *files = re.split(r"^### \[`(.*?)`\].*$", section, flags=re.M)
-        sections, specs = dict(zip(files[::2], files[1::2])), TOP / "crates" / crate / "specs"
+        files, specs = re.findall(r"^### \[`(.*?)`\]", section, re.M), TOP / "crates" / crate / "specs"
         names = [str(path.relative_to(specs)) for path in defined(crate)]
         made += f"{heading}\n\n"
-        for name in sorted(names, key=lambda name: [*sections, name].index(name)):
-            made += f"### [`{name}`](../../crates/{crate}/specs/{name})\n\n" + "\n".join(section_of(specs / name, sections.get(name, ""))) + "\n\n"
+        for name in sorted(names, key=lambda name: [*files, name].index(name)):
+            made += f"### [`{name}`](../../crates/{crate}/specs/{name})\n\n" + "\n".join(section_of(specs / name)) + "\n\n"
     return PAGE, made.rstrip("\n") + "\n"
 
 

@@ -8,5 +8,6 @@ use Rattle.ijson_value.specs.Tree.{Tree, number}
 abbrev pub integer_number : ℤ → Decimal
 integer_number z = stripped_number z (pos 0) false
 
+-- e.g. 100 is 1 and 2, without the point; -1 is -1 and 0.
 abbrev pub integer_tree : ℤ → Tree
 integer_tree z = number (integer_number z)

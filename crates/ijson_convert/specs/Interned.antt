@@ -8,6 +8,7 @@ all_interned [] cache = cache
 all_interned (text ∷ more) cache = all_interned more (interned text cache)
 
 -- Holds if some leading strings of `texts` were interned, and the cache is otherwise unchanged.
+-- e.g. `eight888` and `a` into the empty set make it the set of `eight888`.
 pub record SomeInterned (texts : List (List ℕ)) (old new : Texts) : Type 0 where
   pub done : List (List ℕ)
   pub left : List (List ℕ)

@@ -30,6 +30,8 @@ UnsignedRefused limit (number n) e =
     (e ≡ OutOfRange) × ((m : ℕ) → m < limit → HasValue n (pos m) → ⊥)
 UnsignedRefused limit _ e = e ≡ WrongKind
 
+-- e.g. 2.5 as an `i32` is `OutOfRange`, 256 as a `u8` too, and `"x"` is `WrongKind`; null as an
+-- `Option` is read.
 abbrev pub OptionRefused : (Tree → ConvertError → Type 0) → Tree → ConvertError → Type 0
 OptionRefused Refused null e = ⊥
 OptionRefused Refused t e = Refused t e
@@ -40,6 +42,7 @@ FirstRefused Refused no_items e = ⊥
 FirstRefused Refused (item t more) e =
     Refused t e ⊎ (IsRead Refused t × FirstRefused Refused more e)
 
+-- e.g. `[1,2.5,"x"]` as `i32`s is `OutOfRange`; `{}` is `WrongKind`.
 abbrev pub ListRefused : (Tree → ConvertError → Type 0) → Tree → ConvertError → Type 0
 ListRefused Refused (array items) e = FirstRefused Refused items e
 ListRefused Refused _ e = e ≡ WrongKind
@@ -49,6 +52,7 @@ abbrev pub member_values : Members → Items
 member_values no_members = no_items
 member_values (member k t more) = item t (member_values more)
 
+-- e.g. `{"a":1,"b":"x"}` as a map of `i32`s is `WrongKind`, and so is `[]`.
 abbrev pub MapRefused : (Tree → ConvertError → Type 0) → Tree → ConvertError → Type 0
 MapRefused Refused (object members) e = FirstRefused Refused (member_values members) e
 MapRefused Refused _ e = e ≡ WrongKind

@@ -16,6 +16,7 @@ abbrev mutual
   serde_items_texts no_items = []
   serde_items_texts (item d ds) = serde_texts d ++ serde_items_texts ds
 
+  -- e.g. of its object a:`x` they are a, x.
   pub serde_members_texts : Members → List (List ℕ)
   serde_members_texts no_members = []
   serde_members_texts (member k d ms) = k ∷ (serde_texts d ++ serde_members_texts ms)

@@ -14,6 +14,7 @@ use Rattle.ijson_value.specs.WellFormed.{IsWellFormed}
 use Rattle.ijson_convert.specs.IntegerTree.{integer_number}
 
 -- Holds if `n` is the JSON number of the `serde_json` integer. A float does not have a JSON number.
+-- e.g. 2 of `serde_json` is the number 2; the float 2.0 is none.
 abbrev pub SerdeNumber : Num → Decimal → Type 0
 SerdeNumber (serde.unsigned m) n = (m < 2 ^ 64) × (n ≡ integer_number (pos m))
 SerdeNumber (serde.negative z) n = FitsSigned w64 z × (n ≡ integer_number z)
@@ -34,12 +35,14 @@ abbrev mutual
   SerdeItems (serde.item d ds) (item t ts) = SerdeTree d t × SerdeItems ds ts
   SerdeItems _ _ = ⊥
 
+  -- e.g. its object of b:1 and a:2 is `{"a":2,"b":1}`.
   pub SerdeMembers : serde.Members → Members → Type 0
   SerdeMembers serde.no_members no_members = ⊤
   SerdeMembers (serde.member k d ms) (member j t ps) = (k ≡ j) × SerdeTree d t × SerdeMembers ms ps
   SerdeMembers _ _ = ⊥
 
 -- Holds if the `serde_json` value does not have a JSON tree.
+-- e.g. a list of the float 0.5 has none.
 abbrev pub HasNoTree : Data → Type 0
 HasNoTree d = (t : Tree) → SerdeTree d t → ⊥
 
@@ -48,5 +51,6 @@ abbrev pub SerdeMeans : Data → Tree → Type 0
 SerdeMeans d u = (t : Tree) × IsWellFormed t × SerdeTree d t × Same t u
 
 -- Holds if no `serde_json` value has a JSON tree that means the same as `u`.
+-- e.g. its 2 means the same as `2.0`; no value means `1e400`.
 abbrev pub NoSerdeMeans : Tree → Type 0
 NoSerdeMeans u = (d : Data) → SerdeMeans d u → ⊥

@@ -16,6 +16,7 @@ abbrev mutual
   items_texts no_items = []
   items_texts (item t more) = texts_of t ++ items_texts more
 
+  -- e.g. of `{"a":["x",1],"b":"y"}` they are a, x, b, y.
   pub members_texts : Members → List (List ℕ)
   members_texts no_members = []
   members_texts (member k t more) = k ∷ (texts_of t ++ members_texts more)

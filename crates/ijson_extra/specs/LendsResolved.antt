@@ -14,12 +14,14 @@ use Rattle.ijson_extra.specs.declared.pointer.lend.Unresolved.TheVariants.{Nothi
 
 -- After the borrow ends, the lent value is at the pointer. If no value was lent, the outer value is
 -- unchanged.
+-- e.g. the value at `/a/1` of `{"a":[1,2]}`, replaced by 5, leaves `{"a":[1,5]}`.
 abbrev pub LendsResolved : MutBor WellFormed → List ℕ → Result (MutBor Destructured) Unresolved → Fml
 LendsResolved s pointer r =
     LendsSoOk value.the_row node.the_row s r (λ n w. n.tree ≡ resolved_with s.now.tree pointer (node_value w).tree)
     (λ n. n.tree ≡ s.now.tree)
 
 -- The result of `resolved` that each error stands for.
+-- e.g. `/b` in `{"a":1}` leads nowhere, and `a` is no pointer.
 abbrev pub unresolved : Unresolved → Option (Option Tree)
 unresolved Nothing = Some None
 unresolved (NoPointer why) = None

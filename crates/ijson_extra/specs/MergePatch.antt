@@ -7,15 +7,18 @@ use Rattle.ijson_table.specs.Store.{lookup, put}
 use Rattle.ijson_value.specs.Tree.{Tree, null, object, Members, no_members, member, members_of, members_list}
 
 -- The members of an object. A tree of another kind does not have members.
+-- e.g. of `[1]` there are none.
 abbrev pub members_in : Tree → List (List ℕ × Tree)
 members_in (object ps) = members_list ps
 members_in _ = []
 
 -- The members without the member of `key`.
+-- e.g. a and b without a: b alone.
 abbrev pub without : List ℕ → List (List ℕ × Tree) → List (List ℕ × Tree)
 without key ms = filter (λ m. not (bytes_eq m.0 key)) ms
 
 -- The members after `key` was set to `value`, or removed if `patch` is null.
+-- e.g. a and b, with null at a: b alone.
 abbrev pub changed : List (List ℕ × Tree) → List ℕ → Tree → Tree → List (List ℕ × Tree)
 changed ms key null value = without key ms
 changed ms key patch value = put ms key value
@@ -27,6 +30,7 @@ abbrev mutual
   merged target patch = patch
 
   -- The members after each member of a patch was applied in order. A missing key counts as null.
+  -- e.g. `{"a":{"b":1}}` and the patch `{"a":{"b":null,"c":2}}` make `{"a":{"c":2}}`.
   pub merged_into : List (List ℕ × Tree) → Members → List (List ℕ × Tree)
   merged_into ms no_members = ms
   merged_into ms (member key patch ps) =

@@ -13,6 +13,7 @@ in_first b [] = []
 in_first b (token ∷ more) = (b ∷ token) ∷ more
 
 -- The tokens of the text after the first `/`, as written.
+-- e.g. after the first `/` of `/a~1b/0` they are `a~1b` and `0`.
 abbrev pub written_tokens : List ℕ → List (List ℕ)
 written_tokens [] = [] ∷ []
 written_tokens (b ∷ text) =
@@ -50,6 +51,8 @@ all_meant (written ∷ more) =
     option_and_then (λ token. option_map (λ tokens. token ∷ tokens) (all_meant more)) (meant written)
 
 -- The tokens of a pointer with their escapes decoded, or `None` if the text is not a pointer.
+-- e.g. `a~1b` means `a/b`; `~2` and `~` mean nothing; `/a~1b/0` has the tokens `a/b` and `0`; the
+-- empty text is a pointer with no tokens, `/` has one, which is empty, and `a` is no pointer.
 abbrev pub tokens_of : List ℕ → Option (List (List ℕ))
 tokens_of [] = Some []
 tokens_of (b ∷ text) =
@@ -67,6 +70,7 @@ names_position (b ∷ []) = all_ascii_digits (b ∷ [])
 names_position (b ∷ c ∷ token) = not (b == 48) && all_ascii_digits (b ∷ c ∷ token)
 
 -- The index that a token denotes.
+-- e.g. `0` and `10` are indexes; `01`, `-` and the empty token are not.
 abbrev pub position_named : List ℕ → Option ℕ
 position_named token =
     elim (names_position token) [
@@ -81,6 +85,7 @@ step_named (object _) token = Some (by_key token)
 step_named _ token = None
 
 -- The child of a value that a token refers to.
+-- e.g. `1` in `["x","y"]` leads to `"y"`, and in `{"1":2}` to 2; in `"x"` it leads nowhere.
 abbrev pub child_at : Tree → List ℕ → Option Tree
 child_at t token = option_and_then (tree_at t) (step_named t token)
 
@@ -89,6 +94,7 @@ abbrev pub stepped_with : Tree → Option Step → Tree → Tree
 stepped_with t None u = t
 stepped_with t (Some step) u = tree_with t step u
 
+-- e.g. 5 at `1` of `[1,2]` gives `[1,5]`.
 abbrev pub child_with : Tree → List ℕ → Tree → Tree
 child_with t token u = stepped_with t (step_named t token) u
 
@@ -99,6 +105,7 @@ followed t [] = Some t
 followed t (token ∷ more) = option_and_then (λ u. followed u more) (child_at t token)
 
 -- The tree at a pointer: `Some None` if it does not exist, and `None` if the text is not a pointer.
+-- e.g. `/a/1` in `{"a":[1,2]}` is 2, `/b` is none, and the empty pointer is the whole value.
 abbrev pub resolved : Tree → List ℕ → Option (Option Tree)
 resolved t pointer = option_map (followed t) (tokens_of pointer)
 
@@ -115,5 +122,6 @@ tokens_with t None u = t
 tokens_with t (Some tokens) u = followed_with (Some t) tokens u
 
 -- The tree with the value at a pointer replaced by `u`. Everything else is unchanged.
+-- e.g. 5 at `/a/1` of `{"a":[1,2]}` gives `{"a":[1,5]}`.
 abbrev pub resolved_with : Tree → List ℕ → Tree → Tree
 resolved_with t pointer u = tokens_with t (tokens_of pointer) u

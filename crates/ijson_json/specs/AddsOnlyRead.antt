@@ -12,6 +12,7 @@ IsSpelledIn text s =
 
 -- Holds if `new` contains every string of `old`, and every other string in `new` has more than 7
 -- bytes and is spelled by a slice of `text`.
+-- e.g. `["eight888"]` adds `eight888` and no more.
 pub record AddsOnlyRead (text : List ℕ) (old new : Texts) : Type 0 where
   pub kept : (s : List ℕ) → set.contains old.texts s ≡ true → set.contains new.texts s ≡ true
   pub added : (s : List ℕ) → set.contains new.texts s ≡ true

@@ -31,5 +31,6 @@ abbrev mutual
 
 -- Holds if `text` is accepted, and `cache` contains each string and key of its tree that has more
 -- than 7 bytes.
+-- e.g. after reading `["eight888","a"]` the cache has `eight888`; `a` is not long.
 abbrev pub SharesTextsOf : List ℕ → Texts → Type 0
 SharesTextsOf text cache = (tree : Tree) × Accepted text tree × AreShared cache tree

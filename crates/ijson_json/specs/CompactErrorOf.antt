@@ -6,6 +6,7 @@ use Rattle.ijson_json.specs.declared.compacting.CompactError.TheVariants as erro
 
 -- Wraps the reader's error in `Json`, except `Memory`, which becomes the `Memory` of
 -- `CompactError`.
+-- e.g. `Syntax` at 3 becomes `Json(Syntax)` at 3, and `Memory` becomes `Memory`.
 abbrev pub compact_error_of : JsonError → CompactError
 compact_error_of (json.Syntax at) = errors.Json (json.Syntax at)
 compact_error_of (json.TooDeep at) = errors.Json (json.TooDeep at)

@@ -32,6 +32,8 @@ BeginsLine left before after =
 
 -- Holds if the cache gained only strings that the source's bytes spell. These bytes are `left`, if
 -- known.
+-- e.g. ` [1.50, true ] ` gives `[1.5,true]` and a line feed; a sink that fails after `[1.` got a
+-- proper prefix.
 abbrev pub AddsOnlyLeft : Option (List ℕ) → Texts → Texts → Type 0
 AddsOnlyLeft left old new =
     (read : List ℕ) × IfSome left (λ bytes. bytes ≡ read) × AddsOnlyRead read old new

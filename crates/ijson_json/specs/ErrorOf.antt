@@ -60,6 +60,8 @@ pub record StuckAt (text : List ℕ) (at : ℕ) : Type 0 where
 -- of an invalid escape, otherwise at the first byte that no JSON text has there, or at the end of
 -- `text`. A text with a syntax error does not exceed a limit. `TooDeep` and `NumberRange` are at
 -- the offset where the limit is exceeded. `Memory` is never the error of a text.
+-- e.g. of `[1 2]` and of `[1,` it is `Syntax` at 3, of `01` at 1, of `"a\u12` and of `"a\ud834x"`
+-- at 2; of 128 `[` `TooDeep` at 127, of `[1e2000000000-` `NumberRange` at 1.
 abbrev pub IsErrorOf : List ℕ → JsonError → Type 0
 IsErrorOf text (Syntax at) =
     ((m : ℕ) → TooDeepAt text m → ⊥) × ((m : ℕ) → OutOfRangeAt text m → ⊥)

@@ -28,6 +28,8 @@ abbrev pub Split : (List ℕ → Type 0) → ℕ → (List ℕ → Type 0) → L
 Split P byte Q text = (first second : List ℕ) × P first × Q second × (text ≡ first ++ byte ∷ second)
 
 -- Holds if `text` is a text with the property `P` between the bytes `first` and `last`.
+-- e.g. `1, 2` is split at the comma into `1` and ` 2`, the second being 2 with white space around
+-- it.
 abbrev pub Enclosed : ℕ → (List ℕ → Type 0) → ℕ → List ℕ → Type 0
 Enclosed first P last text = (inside : List ℕ) × P inside × (text ≡ first ∷ (inside ++ last ∷ []))
 
@@ -40,6 +42,7 @@ boolean_text true = 116 ∷ 114 ∷ 117 ∷ 101 ∷ []
 boolean_text false = 102 ∷ 97 ∷ 108 ∷ 115 ∷ 101 ∷ []
 
 -- Holds if `text` is a JSON string, with its quotes, and `s` is its content (section 7).
+-- e.g. `"hi"` is a string for `hi`.
 abbrev pub IsString : List ℕ → List ℕ → Type 0
 IsString s text = Enclosed 34 (λ body. StringBody body s) 34 text
 
@@ -62,6 +65,7 @@ abbrev mutual
       Split (λ first. Spaced (λ value. IsValue t value) first) 44
       (λ others. IsItems (item u more) others) text
 
+  -- e.g. `{"a":1,"a":3}` is an object with the key a twice; `[1,]` is nothing.
   pub IsMembers : Members → List ℕ → Type 0
   IsMembers no_members text = IsSpace text
   IsMembers (member k t no_members) text =
@@ -75,6 +79,7 @@ abbrev mutual
 -- Holds if `text` is JSON that reads as `tree`. `deepest` is the maximum number of open containers,
 -- and `ranged` is whether each number is within the limit. `deepest` and `ranged` include members
 -- that a duplicate key replaces.
+-- e.g. `{"a":[1],"a":2}` reads as `{"a":2}`, two deep.
 pub record Reads (text : List ℕ) (tree : Tree) (deepest : ℕ) (ranged : Bool) : Type 0 where
   pub written : Tree
   pub spelled : Spaced (λ value. IsValue written value) text
@@ -88,5 +93,6 @@ abbrev pub Accepted : List ℕ → Tree → Type 0
 Accepted text tree = (deepest : ℕ) × (deepest ≤ max_depth) × Reads text tree deepest true
 
 -- Holds if the text consists of closing brackets only.
+-- e.g. ` 1 ` is accepted as 1; `1 2` and the empty text are not; `]}` are closers.
 abbrev pub IsClosers : List ℕ → Type 0
 IsClosers text = AllByRecursion (λ b. (b ≡ 93) ⊎ (b ≡ 125)) text

@@ -3,5 +3,6 @@
 use Rattle.std.specs.Prelude.{ℕ}
 
 -- The maximum number of open containers.
+-- e.g. 127 brackets that open and close are read, and 128 are too deep.
 abbrev pub max_depth : ℕ
 max_depth = 127

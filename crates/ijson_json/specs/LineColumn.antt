@@ -13,6 +13,7 @@ abbrev pub begins : ℕ → Bool
 begins b = nat_lt b 128 || leb 192 b
 
 -- The number of characters whose first byte is in the list.
+-- e.g. the bytes of `é` and a line feed, c3 a9 0a, have one line feed and two characters.
 abbrev pub characters : List ℕ → ℕ
 characters [] = 0
 characters (b ∷ bytes) = cond (begins b) (suc (characters bytes)) (characters bytes)
@@ -29,6 +30,7 @@ Counts bytes lines more =
 
 -- Holds if the position after the bytes is at `line` and `column`. Both are counted from 1 and
 -- capped at `2 ^ 64 - 1`.
+-- e.g. after `{`, a line feed and `"b` are line 2 and column 3.
 abbrev pub Follows : List ℕ → ℕ → ℕ → Type 0
 Follows bytes line column = (lines : ℕ) × (more : ℕ) × Counts bytes lines more
     × (line ≡ min (lines + 1) (2 ^ 64 - 1)) × (column ≡ min (more + 1) (2 ^ 64 - 1))

@@ -29,6 +29,7 @@ all_escaped [] = []
 all_escaped (b ∷ bs) = escaped b ++ all_escaped bs
 
 -- The string `s` in quotes, with its escapes.
+-- e.g. the byte 1f is written `\u001f`, a line feed `\n`, and `/` and 7f as themselves.
 abbrev pub quoted : List ℕ → List ℕ
 quoted s = 34 ∷ (all_escaped s ++ 34 ∷ [])
 
@@ -60,5 +61,6 @@ print t = text_by num_text t
 abbrev pub print_items : Items → List ℕ
 print_items items = items_by num_text items
 
+-- e.g. `{"a":1,"b":[2,3],"c":{"d":0.5}}` is written so.
 abbrev pub print_members : Members → List ℕ
 print_members members = members_by num_text members

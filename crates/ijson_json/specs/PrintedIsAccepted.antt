@@ -8,5 +8,6 @@ use Rattle.ijson_json.specs.Print.{print}
 
 -- If a well-formed tree is within the nesting limit, its printed text is accepted and reads as the
 -- same tree.
+-- e.g. the tree of ` [1.50] ` prints as `[1.5]`, which is accepted as the same tree.
 abbrev pub PrintedIsAccepted : Type 0
 PrintedIsAccepted = (t : Tree) → IsWellFormed t → depth t ≤ max_depth → Accepted (print t) t

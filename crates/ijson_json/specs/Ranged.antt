@@ -17,6 +17,7 @@ abbrev mutual
   items_ranged no_items = true
   items_ranged (item t more) = is_ranged t && items_ranged more
 
+  -- e.g. `[1e1073741824]` is, `[1e1073741825]` is not.
   pub members_ranged : Members → Bool
   members_ranged no_members = true
   members_ranged (member k t more) = is_ranged t && members_ranged more

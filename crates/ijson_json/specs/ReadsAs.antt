@@ -14,6 +14,8 @@ ReadsAs text Gives (Err e) = Refuses text e
 
 -- Holds if the `result` for an accepted `text` is a value that `Gives` relates to its tree, or the
 -- error `Memory`. If `result` is an error, it satisfies `Refuses`, also if `text` is rejected.
+-- e.g. the kind of the value of `[1]` is `Array`, and for `[1` the error is `Syntax`. By the lemma
+-- `total` the first states the second.
 pub record IsTotal {X : Type 0} (text : List ℕ) (Gives : Tree → X → Type 0) (result : Result X JsonError) : Type 0 where
   pub read : (tree : Tree) → Accepted text tree → MatchResult result (Gives tree) (λ e. e ≡ Memory)
   pub refused : IfErr result (λ e. Refuses text e)

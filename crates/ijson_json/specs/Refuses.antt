@@ -34,11 +34,14 @@ PassesDepth text =
 
 -- Holds if each reading of the text has a number beyond the limit. Some prefix, completed by
 -- closing brackets, has such a number too.
+-- e.g. `01` has no reading; 128 brackets pass the depth, and `1e-1073741825` the range.
 abbrev pub PassesRange : List ℕ → Type 0
 PassesRange text = Passes (λ _ ranged. ranged ≡ false) (λ _ ranged. ranged ≡ false) text
 
 -- Holds if the text has the fault that the error reports, and the offset is within the text.
 -- `Memory` is always allowed.
+-- e.g. `1 2` is `Syntax`, and so is an unclosed `"` before 128 brackets; 128 of `[` and of `]` are
+-- `TooDeep`.
 abbrev pub Refuses : List ℕ → JsonError → Type 0
 Refuses text (Syntax at) = (at ≤ length text) × HasNoReading text
 Refuses text (TooDeep at) = (at ≤ length text) × PassesDepth text

@@ -20,6 +20,7 @@ abbrev mutual
   settled_items no_items = no_items
   settled_items (item t more) = item (settled t) (settled_items more)
 
+  -- e.g. `{"a":1,"b":2,"a":3}` settles to `{"a":3,"b":2}`.
   pub settled_pairs : Members → List (List ℕ × Tree)
   settled_pairs no_members = []
   settled_pairs (member k t more) = (k, settled t) ∷ settled_pairs more

@@ -28,6 +28,8 @@ hex_digit b =
     (cond (nat_le 65 b && nat_le b 70) (Some (b - 55)) None))
 
 -- Holds if `text` is four hexadecimal digits with the value `u`.
+-- e.g. `a` and the byte 7f denote themselves, and 1f does not; `\n` is the byte 10; `001F` denotes
+-- 31.
 pub record Hex (text : List ℕ) (u : ℕ) : Type 0 where
   pub a : ℕ
   pub b : ℕ
@@ -51,6 +53,7 @@ abbrev pub is_low_surrogate : ℕ → Bool
 is_low_surrogate u = nat_le 0xdc00 u && nat_lt u 0xe000
 
 -- The code point of the surrogate pair `u`, `v`.
+-- e.g. d83d is high, de00 is low, and the pair is U+1F600.
 abbrev pub paired : ℕ → ℕ → ℕ
 paired u v = 0x10000 + ((u - 0xd800) * 1024 + (v - 0xdc00))
 
@@ -67,6 +70,8 @@ pub data Character : List ℕ → List ℕ → Type 0 where
       → Character (92 ∷ 117 ∷ (h ++ 92 ∷ 117 ∷ l)) (encode_utf8 (paired u v))
 
 -- Relates a sequence of characters as written in a string to its UTF-8 bytes.
+-- e.g. `\ud83d\ude00` denotes the bytes f0 9f 98 80; `\ud83d` alone denotes nothing; `\/` denotes
+-- `/`.
 pub data StringBody : List ℕ → List ℕ → Type 0 where
   empty : StringBody [] []
   one_more : {written meant body text : List ℕ} → Character written meant → StringBody body text

@@ -22,5 +22,7 @@ pub record NeedsDigits (a b : Decimal) : Type 0 where
 
 -- The maximum number of digits that a comparison of `a` and `b` reads: twice the smaller digit
 -- count.
+-- e.g. 250 has 2 digits and leads at place 3; 2.5 against 2.7 needs digits, at most 4 inspections;
+-- 2.5 against 25 needs none.
 abbrev pub most_looks : Decimal → Decimal → ℕ
 most_looks a b = 2 * min (digit_count a) (digit_count b)

@@ -52,6 +52,8 @@ smallest_packed (suc tries) k n =
 
 -- The representation of `n`. A number with a decimal point is packed only with an exponent from -7
 -- (`negsuc 6`) to 7.
+-- e.g. 36028797018963967 is packed, 36028797018963968 a signed word, 9223372036854775808 an
+-- unsigned one, 18446744073709551616 digits; `1e23` is packed as 10000000000000000 and 7.
 abbrev pub form_of : Decimal → FormOf
 form_of n =
     elim n.point [
@@ -66,6 +68,7 @@ form_of n =
     ]
 
 -- Returns `true` if a representation is a list of digits. Only a list of digits is allocated.
+-- e.g. so for `1e24` and `441044444333116.125`, not for `1e23`.
 abbrev pub is_digits : FormOf → Bool
 is_digits (packed m e point) = false
 is_digits (signed_word z) = false

@@ -12,6 +12,7 @@ form_number (unsigned_word n) = stripped_number (pos n) (pos 0) false
 form_number (digits negative ds e point) = stored_number negative ds e point
 
 -- The representation of an integer that fits an `i64` or a `u64`.
+-- e.g. packed 15 with exponent -1 and a point is `1.5`; 5 is packed, and 2^55 a signed word.
 abbrev pub integer_word : ℤ → FormOf
 integer_word z =
     elim (fits_packed z) [

@@ -19,6 +19,7 @@ IsDigits [] = ⊥
 IsDigits (b ∷ bs) = IsDigit b × AllDigits bs
 
 -- The value of a list of digit bytes, read in base 10.
+-- e.g. the value of `0250` is 250; the empty text is `AllDigits` and not `IsDigits`.
 abbrev pub value : List ℕ → ℕ
 value bs = number_from_digits 10 (map (λ b. b - 48) bs)
 
@@ -48,6 +49,8 @@ IsSigned (b ∷ bs) z =
 
 -- Holds if the bytes are an optional exponent with the value `z`. A written exponent is `'e'` or
 -- `'E'` and a signed integer. The value is 0 and `written` is false if the bytes are empty.
+-- e.g. in `-12.50E+3` they are `-`, `12`, `.50`, and `E+3` with `+3` in it; `01` is no whole part,
+-- and `1.` has no fraction.
 abbrev pub IsExponent : List ℕ → ℤ → (written : Bool) → Type 0
 IsExponent [] z written = z ≡ pos 0 × written ≡ false
 IsExponent (b ∷ bs) z written = (b ≡ 101 ⊎ b ≡ 69) × IsSigned bs z × written ≡ true
@@ -62,6 +65,7 @@ pub record Parts : Type 0 where
   pub point : Bool
 
 -- Holds if `text` is a spelling of the parts `p` according to RFC 8259.
+-- e.g. `-12.50E+3` is negative, `12`, `50`, 3, a point.
 pub record IsSpelled (text : List ℕ) (p : Parts) : Type 0 where
   pub minus_text : List ℕ
   pub fraction_text : List ℕ
@@ -78,6 +82,7 @@ pub record IsSpelled (text : List ℕ) (p : Parts) : Type 0 where
 -- Holds if the parts denote the number `n`. The mantissa is the signed value of all digits. The
 -- exponent is the written exponent minus the number of fraction digits. Trailing zeros of the
 -- mantissa are stripped.
+-- e.g. the parts of `1.5E-3` denote 15 and -4 with a point.
 abbrev pub Denotes : Parts → Decimal → Type 0
 Denotes p n =
     let mantissa = signed p.negative (value (p.whole ++ p.fraction)) in
@@ -85,5 +90,7 @@ Denotes p n =
     Strips mantissa exponent n × n.point ≡ p.point
 
 -- Holds if `text` is a JSON number that denotes `n`.
+-- e.g. `1.50`, `1.5` and `15e-1` spell one decimal, 15 and -1 with a point; `+1` and `.5` spell
+-- none.
 abbrev pub Spells : List ℕ → Decimal → Type 0
 Spells text n = (p : Parts) × IsSpelled text p × Denotes p n

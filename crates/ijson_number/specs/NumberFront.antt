@@ -20,11 +20,13 @@ pub record IsNumberFront (text : List ℕ) (count : ℕ) : Type 0 where
   pub ends : count < length text → BeginsNumber (take (count + 1) text) → ⊥
 
 -- Holds if `has_point` is true or the bytes do not begin with `'.'`.
+-- e.g. `.5` does after `1.5` and does not after `1`.
 abbrev pub HasNoPoint : (has_point : Bool) → List ℕ → Type 0
 HasNoPoint has_point [] = Unit {0}
 HasNoPoint has_point (b ∷ bs) = has_point ≡ false → b ≢ 46
 
 -- Holds if the bytes spell a number whose exponent exceeds the limit.
+-- e.g. `1e2000000000`.
 abbrev pub IsPastLimit : List ℕ → Type 0
 IsPastLimit bytes = (n : Decimal) × Spells bytes n × (is_in_range n ≡ false)
 

@@ -16,5 +16,6 @@ number_cmp a b =
     int_cmp (at_exponent c a) (at_exponent c b)
 
 -- Returns `true` if two numbers have the same value.
+-- e.g. 2 and 2.0 tie; 2.5 is above 2, since 25 is above 20 at exponent -1.
 abbrev pub number_eq : Decimal → Decimal → Bool
 number_eq a b = is_eq (number_cmp a b)

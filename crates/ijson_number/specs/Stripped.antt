@@ -20,6 +20,7 @@ exponent_above false e tens = e +ℤ pos tens
 
 -- The decimal `m * 10 ^ e` without trailing zeros in its mantissa. Strips at most 20 zeros, so `m`
 -- may have at most 20 digits.
+-- e.g. 100 has two tens, so with exponent 0 it is 1 and 2; zero gets exponent 0.
 abbrev pub stripped_number : ℤ → ℤ → Bool → Decimal
 stripped_number m e point =
     let r = tens_out 20 (nat_abs m) in

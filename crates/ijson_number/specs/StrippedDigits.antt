@@ -13,5 +13,6 @@ digits_within (suc turns) n =
     ]
 
 -- The digits of the mantissa of `n`, most significant first. The list is empty for zero.
+-- e.g. of -250, whose significand is -25, the digits are 2, 5; of 0 there are none.
 abbrev pub stripped_digits : Decimal → List ℕ
 stripped_digits n = digits_within (nat_abs n.mantissa) (nat_abs n.mantissa)

@@ -7,6 +7,7 @@ abbrev pub signed : (negative : Bool) → ℕ → ℤ
 signed negative n = cond negative (neg_ℤ (pos n)) (pos n)
 
 -- Holds if `n` is canonical and has the value `m * 10 ^ e`.
+-- e.g. 100 and 0 strip to 1 and 2; 150 and -2 to 15 and -1, with the point; 0 and 7 to 0 and 0.
 pub record Strips (m e : ℤ) (n : Decimal) : Type 0 where
   pub plain : IsPlain n
   pub tens :

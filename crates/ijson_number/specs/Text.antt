@@ -13,6 +13,7 @@ abbrev pub zeros_text : ℕ → List ℕ
 zeros_text n = replicate n 48
 
 -- The decimal text of an integer.
+-- e.g. the digits 2, 5 are `25`; three zeros are `000`; -7 is `-7`.
 abbrev pub whole_text : ℤ → List ℕ
 whole_text (pos zero) = 48 ∷ []
 whole_text (pos (suc n)) = digits_text (digits_within (suc n) (suc n))
@@ -50,6 +51,8 @@ float_text ds e =
 
 -- The text of the nonzero number with digits `ds` and exponent `e`, without its sign. Without a
 -- decimal point, `e` zeros follow the digits.
+-- e.g. `1e20` is written `100000000000000000000.0`, `1e22` stays, `1.5E-3` is `0.0015`, `0.0000001`
+-- is `1e-7`, `12e30` is `1.2e31`.
 abbrev pub shape_text : Bool → List ℕ → ℤ → List ℕ
 shape_text point ds e =
     elim point [
@@ -66,6 +69,7 @@ minus_text true = 45 ∷ []
 minus_text false = []
 
 -- The JSON text of a number.
+-- e.g. `-0` is written `0`, `-0.0` is `0.0`, `-250` is `-250`.
 abbrev pub num_text : Decimal → List ℕ
 num_text n =
     elim (nat_eq (nat_abs n.mantissa) 0) [

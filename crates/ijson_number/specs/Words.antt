@@ -6,6 +6,7 @@ use Rattle.ijson_number.specs.StrippedDigits.{stripped_digits}
 
 -- For zero, the words are 2 and 0. For any other number they are 2, the sign as 1 (positive) or 2
 -- (negative), the exponent plus `2 ^ 31`, the number of digits, and the digits.
+-- e.g. `2` and `2.0` feed 2, 1, 2147483648, 1, 2; `-0.5` feeds 2, 2, 2147483647, 1, 5.
 abbrev pub number_words : Decimal → List ℕ
 number_words n =
     elim (nat_eq (nat_abs n.mantissa) 0) [

@@ -21,6 +21,8 @@ is_long text = ltb 7 (length text)
 
 -- The cache after interning `text`. A long string is added to the set, and a short string leaves
 -- the cache unchanged.
+-- e.g. `seven77` leaves the empty set empty; `eight888`, interned once or twice, makes it a set of
+-- one.
 abbrev pub interned : List ℕ → Texts → Texts
 interned text cache = record {
   texts = if is_long text then set.insert cache.texts text else cache.texts;

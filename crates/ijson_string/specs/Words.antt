@@ -2,5 +2,6 @@
 -- fed by one call of `write_u64`.
 use Rattle.std.specs.Prelude.{ℕ, List, ◌∷◌, length}
 
+-- e.g. `hi` feeds 3, 2, 104, 105.
 abbrev pub text_words : List ℕ → List ℕ
 text_words text = 3 ∷ length text ∷ text

@@ -7,5 +7,6 @@ looks_a_pair = 36
 
 -- Holds if `looks` is within the bound on the inspections of building a table of `n` pairs:
 -- `n * (looks_a_pair + 2 * k)` for every `k` with `n ≤ 2 ^ k`. The bound is O(n log n).
+-- e.g. for 2,048 entries, k = 11, at most 118,784; for one entry, k = 0, at most 36.
 abbrev pub IsBuildBounded : ℕ → ℕ → Type 0
 IsBuildBounded n looks = (k : ℕ) → n ≤ 2 ^ k → looks ≤ n * (looks_a_pair + 2 * k)

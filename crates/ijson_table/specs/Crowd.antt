@@ -10,6 +10,8 @@ abbrev pub home_of : (List ℕ → ℕ) → ℕ → List ℕ → ℕ
 home_of hash n key = hash key % n
 
 -- The number of slots from slot `from` to slot `to` of `n`, wrapping around.
+-- e.g. 3 slots for capacity 3, 5 for 4, 10 for 8, 12 for 10; from slot 2 to slot 0 of 3 the
+-- distance is 1.
 unfoldable pub distance : ℕ → ℕ → ℕ → ℕ
 distance n from to = (if leb from to then to - from else to + n - from)
 
@@ -25,6 +27,8 @@ greatest_below (suc m) f = max (f m) (greatest_below m f)
 -- The size of the collision cluster of the home slot of `key` in a table of capacity `c`: the
 -- maximum of `homed - s` over all `s` below the number of slots. `homed` counts the keys with their
 -- home slot among the `s + 1` slots that end at the home slot of `key`.
+-- e.g. three keys with home 0 among 3 slots: the crowd there is 3; one key at its home, none pushed
+-- in from before: 1.
 unfoldable pub crowd : (List ℕ → ℕ) → List (List ℕ) → ℕ → List ℕ → ℕ
 crowd hash keys c key =
     greatest_below (slot_count c) (λ s. homed hash (slot_count c) keys (home_of hash (slot_count c) key) s - s)

@@ -16,5 +16,6 @@ unfoldable pub fold_word : ℕ → ℕ → ℕ
 fold_word h word = (h * prime + word) % 2 ^ 64
 
 -- The hash of `words`: they are folded in order, starting from the basis.
+-- e.g. the empty text gives cbf29ce484222325, and `a` gives af63bd4c8601b840 (hexadecimal).
 abbrev pub fold_words : List ℕ → ℕ
 fold_words words = fold fold_word basis words

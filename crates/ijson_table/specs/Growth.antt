@@ -22,6 +22,8 @@ Grow len c n (Err Memory) c' = (c' ≡ c) × (c < wanted len c n) × (wanted len
 
 -- Holds if shrinking a store to its length `len` can have this result and the new capacity `c'`. On
 -- success, `c'` is `len`. The only error is `Memory`, after which the capacity is unchanged.
+-- e.g. five keys in order go from capacity 0 to 4 and to 8; a, c at capacity 4 shrink to 2; room
+-- for 2^56 + 1 is `TooLarge`.
 abbrev pub Shrink : {A : Type 0} → ℕ → ℕ → Result A ReserveError → ℕ → Type 0
 Shrink len c (Ok _) c' = c' ≡ len
 Shrink len c (Err Memory) c' = (c' ≡ c) × (c ≢ len) × (0 < len)
@@ -32,5 +34,6 @@ abbrev pub Grown : ℕ → ℕ → ℕ → ℕ → Type 0
 Grown len c n c' = Grow {A = Unit {0}} len c n (Ok tt) c'
 
 -- Holds if reserving `n` more entries can fail for the reason `why`, with the capacity `c'`.
+-- e.g. one more at length 4 and capacity 4 grows to 8, or stays at 4 if memory ran out.
 abbrev pub Ungrown : ℕ → ℕ → ℕ → ReserveError → ℕ → Type 0
 Ungrown len c n why c' = Grow {A = Unit {0}} len c n (Err why) c'

@@ -8,6 +8,8 @@ use Rattle.ijson_table.specs.Growth.{Grown, Ungrown}
 -- `key` is present, its value is replaced and the capacity is unchanged. Otherwise, the store grows
 -- if needed, and the entry is appended. If the growth fails, the entry is returned and the store is
 -- unchanged.
+-- e.g. `a` into a full store that has it returns the old value; `e` into a, b, c, d at capacity 4,
+-- if memory runs out, comes back with its value.
 abbrev pub Inserts : {V : Type 0} → List (List ℕ × V) → ℕ → List ℕ → V → Result (Option V) (RefusedPair V)
     → List (List ℕ × V) → ℕ → Type 0
 Inserts pairs c key value (Ok (Some old)) pairs' c' =

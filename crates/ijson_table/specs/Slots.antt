@@ -23,6 +23,7 @@ displaced n hashes p None = 0
 displaced n hashes p (Some i) = distance n (home_at n hashes i) p + 1
 
 -- The displacement of the resident of slot `p`, or 0 if the slot is empty.
+-- e.g. a, b, c with home 0 in slots 0, 1, 2 are displaced 1, 2, 3; after slot 2 comes slot 0.
 unfoldable pub displacement : List ℕ → List (Option ℕ) → ℕ → ℕ
 displacement hashes slots p = displaced (length slots) hashes p (resident slots p)
 
@@ -36,6 +37,7 @@ unfoldable pub times : ℕ → List (Option ℕ) → ℕ
 times i slots = count_by (holds i) slots
 
 -- How often a table of `count` keys holds index `i`: 1 if `i` is below `count`, else 0.
+-- e.g. if the slots hold 1, 0 and nothing, index 1 is held once and index 2 never.
 abbrev pub below : ℕ → ℕ → ℕ
 below count i = (if ltb i count then 1 else 0)
 
@@ -47,12 +49,15 @@ IsOrdered hashes slots =
     → displacement hashes slots (after (length slots) p) ≤ displacement hashes slots p + 1
 
 -- The invariant of the slots of a table whose keys have these hashes.
+-- e.g. keys of one home in slots 0, 1, 2 are a table; with slot 1 empty and one of them in slot 2
+-- they are not.
 pub record IsTable (hashes : List ℕ) (slots : List (Option ℕ)) : Type 0 where
   pub ordered : IsOrdered hashes slots
   -- Each index of a key is in exactly one slot, and no other index is in any slot.
   pub placed : (i : ℕ) → times i slots ≡ below (length hashes) i
 
 -- Holds if `looks` is within the bounds on the inspections of a lookup for `key`.
+-- e.g. in 3 full slots, all of home 0, a missing key takes at most 3 inspections.
 pub record IsBounded (hash : List ℕ → ℕ) (keys : List (List ℕ)) (slots : List (Option ℕ)) (c : ℕ) (key : List ℕ) (looks : ℕ) : Type 0 where
   -- If a slot is empty, `looks` exceeds the size of the collision cluster by at most 1.
   pub some_empty : (p : ℕ) → p < length slots → resident slots p ≡ None → looks ≤ crowd hash keys c key + 1

@@ -34,6 +34,8 @@ Step pairs c command reply pairs' c' = ⊥
 
 -- Holds if a store of `pairs` and capacity `c` may reply with these replies to these commands, in
 -- order, and end with `pairs'` and `c'`.
+-- e.g. to a, b, c, d at capacity 4, `Remove(b)` replies the entry of b and leaves a, d, c;
+-- `Remove(b)` again replies that there is none.
 abbrev pub Run : {V : Type 0} → List (List ℕ × V) → ℕ → List (Command V) → List (Reply V)
     → List (List ℕ × V) → ℕ → Type 0
 Run pairs c [] [] pairs' c' = (pairs' ≡ pairs) × (c' ≡ c)

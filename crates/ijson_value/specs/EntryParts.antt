@@ -17,6 +17,7 @@ entry_key (Occupied o) = get_or (keys_of o.object.now.pairs) o.index []
 entry_key (Vacant v) = v.key
 
 -- The value of the key, or `None` if the `Entry` is vacant.
+-- e.g. of the entry of b in a:1, b:2: that object, b, and 2; of c: that object, c, and none.
 abbrev pub entry_value : Entry → Option WellFormed
 entry_value (Occupied o) = option_map (λ pair. pair.1) (slice_get o.object.now.pairs o.index)
 entry_value (Vacant v) = None

@@ -24,6 +24,8 @@ FindsNoRoom old key why = (lookup key old.pairs ≡ None) × Ungrown (length old
 -- Holds if `key` is missing and no `Entry` is created, because reserving capacity fails or because
 -- `key` cannot be cloned. Cloning fails only for keys of more than 7 bytes, with the error
 -- `Memory`.
+-- e.g. b in a:1, b:2 is occupied; e in a, b, c, d at capacity 4 is vacant at capacity 8, or has no
+-- entry.
 abbrev pub FindsNoRoomOrCopy : Store WellFormed → List ℕ → ReserveError → Type 0
 FindsNoRoomOrCopy old key why =
     FindsNoRoom old key why ⊎ ((lookup key old.pairs ≡ None) × (7 < length key) × (why ≡ Memory))

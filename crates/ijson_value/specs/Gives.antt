@@ -9,9 +9,11 @@ module _ {U T A : Type 0} (becomes : U → T → Type 0) (steps : T → Option A
   GivesAll xs = (it : T) × becomes source it × Drains steps it xs
 
   -- Holds if an iterator of the source yields the elements `xs` and then the element `x`.
+  -- e.g. an iterator over 1 and 2 gives 1, 2 and its end; it gives 1, and then 2.
   abbrev pub GivesThen : List A → A → Type 0
   GivesThen xs x = (it : T) × (rest : T) × becomes source it × YieldsThen steps it xs (Some x) rest
 
   -- Holds if `all` is the only list of elements that the source can yield until the end.
+  -- e.g. the iterator of a list of 1 and 2 yielded 1 and 2 when it ended.
   abbrev pub GivesList : List A → Type 0
   GivesList all = (xs : List A) → GivesAll xs → xs ≡ all

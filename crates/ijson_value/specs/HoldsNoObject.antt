@@ -9,6 +9,7 @@ abbrev mutual
   HoldsNoObject _ = Unit {0}
 
   -- Holds if no element is an object or contains an object at any depth.
+  -- e.g. `[1,[]]` contains none, `[1,{}]` one.
   pub HoldNoObject : Items → Type 0
   HoldNoObject no_items = Unit {0}
   HoldNoObject (item t ts) = HoldsNoObject t × HoldNoObject ts

@@ -4,6 +4,7 @@ use Rattle.ijson_table.specs.Inserts.{Inserts}
 
 -- Holds if inserting the listed entries in order turns `pairs` with capacity `c` into `pairs'` with
 -- capacity `c'`. Every insertion succeeds.
+-- e.g. a:1, b:2, a:3 into the empty object: a:3, b:2 at capacity 4.
 abbrev pub InsertsEach : {V : Type 0} → List (List ℕ × V) → ℕ → List (List ℕ × V) → List (List ℕ × V) → ℕ → Type 0
 InsertsEach pairs c [] pairs' c' = (pairs' ≡ pairs) × (c' ≡ c)
 InsertsEach {V} pairs c (pair ∷ added) pairs' c' =

@@ -23,6 +23,7 @@ LendsAtKey s key r = Lends object.the_row value.the_row s r (with_key s.now key)
 
 -- Holds if writing through `r` sets the value of `key` in `s`, or if `r` is `None` and `s` is
 -- unchanged.
+-- e.g. 5 written at b of a:1, b:2 leaves a:1, b:5; at c nothing is lent.
 abbrev pub LendsAtKeyIf : MutBor (Store WellFormed) → List ℕ → Option (MutBor WellFormed) → Fml
 LendsAtKeyIf s key r = LendsIf object.the_row value.the_row s r (with_key s.now key) s.now
 
@@ -39,6 +40,8 @@ IsPut s key w n = (n.pairs ≡ put s.pairs key w) × GrownAt (at s.pairs key) (l
 
 -- Holds if writing through `r` puts the value at `key` in `s`, or if `r` is an error and `s` is
 -- unchanged. A missing key is added.
+-- e.g. 5 put at e into a, b, c, d at capacity 4 leaves five entries at capacity 8; at a it leaves
+-- four at 4.
 abbrev pub LendsPut : {E : Type 0} → MutBor (Store WellFormed) → List ℕ → Result (MutBor WellFormed) E → Fml
 LendsPut s key r =
     LendsSoOk object.the_row value.the_row s r (λ n w. IsPut s.now key w n)

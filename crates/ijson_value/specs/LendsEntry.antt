@@ -24,5 +24,6 @@ OccupiedLends o r =
     o.ghost_name r.ghost_name (with_entry_value o.now)
 
 -- Holds if `r` is an `Entry` of the object `s`, or if `r` is an error and `s` is unchanged.
+-- e.g. 7 written through `into_mut` of b's entry in a:1, b:2 leaves a:1, b:7.
 abbrev pub RestsIfNoEntry : {E : Type 0} → MutBor (Store WellFormed) → Result Entry E → Fml
 RestsIfNoEntry s r = RestsIfErr object.the_row s (λ e. (entry_object e).ghost_name) r (λ o. o ≡ s.now)

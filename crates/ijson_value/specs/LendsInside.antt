@@ -7,6 +7,7 @@ use Rattle.ijson_value.specs.contracts.value.IValue as value
 
 -- Holds if writing through `r` sets the value at `step` in `s`, or if `r` is `None` and `s` is
 -- unchanged.
+-- e.g. 5 written at a of `{"a":1,"b":2}` leaves `{"a":5,"b":2}`; at c nothing is lent.
 abbrev pub LendsInsideIf : MutBor WellFormed → Step → Option (MutBor WellFormed) → Fml
 LendsInsideIf s step r =
     LendsSo value.the_row value.the_row s r (λ n w. OnSome r (n.tree ≡ tree_with s.now.tree step w.tree))

@@ -16,5 +16,6 @@ LendsItem s i r = Lends arrays.the_row value.the_row s r (with_item s.now i)
 
 -- Holds if writing through `r` sets the element at index `i` of `s`, or if `r` is `None` and `s` is
 -- unchanged.
+-- e.g. `true` written at 1 of `[null,false]` leaves `[null,true]`.
 abbrev pub LendsItemIf : MutBor Sequence → ℕ → Option (MutBor WellFormed) → Fml
 LendsItemIf s i r = LendsIf arrays.the_row value.the_row s r (with_item s.now i) s.now

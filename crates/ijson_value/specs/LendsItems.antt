@@ -19,5 +19,6 @@ LendsItems s r = Lends arrays.the_row (Array value.the_row 0) s r (with_items s.
 
 -- Holds if writing through the references that `it` yields sets the elements of `s` and changes
 -- nothing else.
+-- e.g. two elements swapped in the slice of `[1,2]` leave `[2,1]`.
 abbrev pub LendsItemsInTurn : MutBor Sequence → IterMut WellFormed → Fml
 LendsItemsInTurn s it = follows arrays.the_row (Array value.the_row 0) s.ghost_name (iter_mut_name it) (with_items s.now)

@@ -16,5 +16,6 @@ pair_name None = maybe.none
 
 -- Holds if writing through `r` sets the value of `key` in `s`, or if `r` is `None` and `s` is
 -- unchanged.
+-- e.g. 5 written in the entry of b of a:1, b:2 leaves a:1, b:5; at c nothing is lent.
 abbrev pub LendsPairIf : MutBor (Store WellFormed) → List ℕ → Option (Bor (List ℕ) × MutBor WellFormed) → Fml
 LendsPairIf s key r = follows_if object.the_row value.the_row s.ghost_name (pair_name r) (with_key s.now key) s.now

@@ -43,5 +43,6 @@ LendsObject s r = LendsIf value.the_row objects.the_row s r object_value s.now
 
 -- Holds if writing through `r` sets the content of the value `s`. Every value has content, so `r`
 -- is not an `Option`.
+-- e.g. 3 written through `as_number_mut` of `2` leaves `3`; `"x"` lends nothing and stays.
 abbrev pub LendsOpened : MutBor WellFormed → MutBor Destructured → Fml
 LendsOpened s r = Lends value.the_row node.the_row s r node_value

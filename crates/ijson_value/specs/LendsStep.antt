@@ -24,6 +24,7 @@ LendsStep s step r = Lends node.the_row value.the_row s r (with_step s.now step)
 
 -- Holds if writing through `r` sets the value at `step` in `s`, or if `r` is `None` and `s` is
 -- unchanged.
+-- e.g. 5 written at a of `{"a":1,"b":2}` leaves `{"a":5,"b":2}`.
 abbrev pub LendsStepIf : MutBor Destructured → Step → Option (MutBor WellFormed) → Fml
 LendsStepIf s step r = LendsIf node.the_row value.the_row s r (with_step s.now step) s.now
 
@@ -34,6 +35,7 @@ InObject P _ = ⊥
 
 -- Holds if `s` is an object and writing through `r` puts the value at `key`, or if `r` is an error
 -- and `s` is unchanged. A missing key is added.
+-- e.g. 5 written at the missing key c of that object leaves `{"a":1,"b":2,"c":5}`.
 abbrev pub LendsPutInside : {E : Type 0} → MutBor Destructured → List ℕ → Result (MutBor WellFormed) E → Fml
 LendsPutInside s key r =
     LendsSoOk node.the_row value.the_row s r

@@ -13,5 +13,6 @@ LendsValue s i r = Lends object.the_row value.the_row s r (store_with_value s.no
 
 -- Holds if writing through `r` sets the value at index `i` of `s`, or if `r` is `None` and `s` is
 -- unchanged.
+-- e.g. 5 written at index 0 of a:1, b:2 leaves a:5, b:2; at index 2 nothing is lent.
 abbrev pub LendsValueIf : MutBor (Store WellFormed) → ℕ → Option (MutBor WellFormed) → Fml
 LendsValueIf s i r = LendsIf object.the_row value.the_row s r (store_with_value s.now i) s.now

@@ -8,6 +8,7 @@ items_len no_items = 0
 items_len (item t ts) = suc (items_len ts)
 
 -- The number of elements of an array or of entries of an object. Other kinds have no length.
+-- e.g. 2 for `[1,{}]`, 1 for `{"a":1}`, none for `"hi"`.
 abbrev pub length_of : Tree → Option ℕ
 length_of null = None
 length_of (boolean b) = None

@@ -20,5 +20,7 @@ module _ {F V : Type 0} (asked : F → List ℕ → V → Bool → V → F → T
         → AskedFrom n f i pairs g j left → slice_get left j ≡ Some (key, v) → may g key v
 
   -- Holds if `may` permits each call of the closure that `retain` makes on `pairs`.
+  -- e.g. a closure that may be called three times in all may be called for three entries, not for
+  -- four.
   abbrev pub MayAsk : (F → List ℕ → V → Type 0) → F → List (List ℕ × V) → Type 0
   MayAsk may f pairs = MayAskFrom may f 0 pairs

@@ -4,6 +4,7 @@ use Rattle.ijson_value.specs.WellFormed.{WellFormed}
 use Rattle.ijson_value.specs.declared.value.Destructured.{Destructured}
 use Rattle.ijson_value.specs.declared.value.Destructured.TheVariants.{Null, Bool, Number, String, Array, Object}
 
+-- e.g. an opened array of 1 and 2 is the value of `[1,2]`.
 abbrev pub node_value : Destructured → WellFormed
 node_value Null = null_value
 node_value (Bool b) = boolean_value b

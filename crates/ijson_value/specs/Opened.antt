@@ -17,6 +17,7 @@ ref_value (Array a) = array_value a.now.items
 ref_value (Object o) = object_value o.now
 
 -- The value whose content the `DestructuredMut` refers to, before any write.
+-- e.g. like `node_value`, of a borrowed array.
 abbrev pub mut_value : DestructuredMut → WellFormed
 mut_value parts.Null = null_value
 mut_value (parts.Bool b) = boolean_value b.place.now

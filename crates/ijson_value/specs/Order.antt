@@ -33,6 +33,8 @@ abbrev mutual
 
   -- The order of the first two elements at the same index that are not `Equal`, or else the order
   -- of the lengths. The order of two elements may be `None`.
+  -- e.g. `null`, `false`, `true`, `0`, `""`, `[]`, `{}`: each is less than the next; `{"k":1}` and
+  -- `{"k":2}` are unordered; `[1,{"k":1}]` is less than `[2,{"k":2}]`.
   pub items_cmp : Items → Items → Option Ordering
   items_cmp no_items no_items = Some Equal
   items_cmp no_items (item u us) = Some Less

@@ -8,6 +8,8 @@ use Rattle.ijson_value.specs.declared.object.edits.RefusedReplacement.TheVariant
 -- Holds if replacing the key `from` by `to` in `pairs` can have the given result and leave
 -- `pairs'`. If `from` is missing or another entry has `to`, the result is an error that returns
 -- `to`, and the entries are unchanged.
+-- e.g. c for b in a:1, b:2 returns b; c for d returns `Missing` with c, and a for b returns
+-- `Exists` with a.
 abbrev pub ReplacesKey : {V : Type 0} → List (List ℕ × V) → List ℕ → List ℕ → Result (List ℕ) RefusedReplacement
     → List (List ℕ × V) → Type 0
 ReplacesKey pairs from to (Ok was) pairs' =

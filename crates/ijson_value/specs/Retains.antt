@@ -17,5 +17,7 @@ module _ {F V : Type 0} (asked : F → List ℕ → V → Bool → V → F → T
       × RetainsFrom n g (if keeps then i + 1 else i) (if keeps then with_value pairs i w else swap_out pairs i) kept
 
   -- Holds if `retain` with the closure `f` can turn the entries `pairs` into `kept`.
+  -- e.g. keys 0 to 5 with their numbers, evens stay times ten: called for 0, 1, 5, 4, 2, 3, and
+  -- 0:0, 4:40, 2:20 are left.
   abbrev pub Retains : F → List (List ℕ × V) → List (List ℕ × V) → Type 0
   Retains f pairs kept = RetainsFrom (length pairs) f 0 pairs kept

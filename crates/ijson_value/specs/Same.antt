@@ -31,6 +31,8 @@ abbrev mutual
   SameEach _ _ = ⊥
 
   -- Holds if, for each entry of `ps`, an entry of `qs` has the same key and the same value.
+  -- e.g. `{"k":2,"l":[1,{}]}` and `{"l":[1.0,{}],"k":2.0}` mean the same; `[1,2]` and `[2,1]` do
+  -- not.
   pub SameIn : Members → Members → Type 0
   SameIn no_members qs = Unit {0}
   SameIn (member k t ps) qs = ((u : Tree) × Has k u qs × Same t u) × SameIn ps qs

@@ -31,6 +31,7 @@ abbrev mutual
 
   -- Returns `true` if, for each entry of `ps`, an entry of `qs` has the same key and the same
   -- value.
+  -- e.g. true of the first two, false of the last two.
   pub same_in : Members → Members → Bool
   same_in no_members qs = true
   same_in (member k t ps) qs = some_has k (same t) qs && same_in ps qs

@@ -14,5 +14,6 @@ abbrev pub array_size : Sequence → ℕ
 array_size a = 2 * items_depth (item_trees a.items) + 1
 
 -- The size of an object: twice the maximum depth of its values, plus one.
+-- e.g. of `[1]` the array has size 1, the value 2, and the value in it 0.
 abbrev pub object_size : Store WellFormed → ℕ
 object_size s = 2 * members_depth (pair_trees s.pairs) + 1

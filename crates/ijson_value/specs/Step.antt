@@ -13,6 +13,7 @@ pub data Step : Type 0 where
   by_key : List ℕ → Step
 
 -- The kind that a value must have for the step: an array for an index, an object for a key.
+-- e.g. `[1,2]` is entered by index 1, `{"a":1}` by the key a.
 abbrev pub kind_for : Step → ValueType
 kind_for (by_position i) = Array
 kind_for (by_key key) = Object
@@ -31,6 +32,8 @@ tree_with t _ u = t
 
 -- The tree without the value at the step. Later elements of an array shift to the left. The last
 -- entry of an object replaces the removed entry.
+-- e.g. at index 1 of `[null,true,false]` is `true`; without it `[null,false]` is left; without b,
+-- the members a, b, c, d are a, d, c.
 abbrev pub tree_without : Tree → Step → Tree
 tree_without (array ts) (by_position i) = array (items_of (remove (items_list ts) i))
 tree_without (object ps) (by_key key) = object (members_of (swap_out_key key (members_list ps)))

@@ -18,6 +18,7 @@ mutual
     item : Tree → Items → Items
 
   -- The members of an object, each a key with a value.
+  -- e.g. `[1,{"a":null}]` is an array of a number and an object with one member.
   pub data Members : Type 0 where
     no_members : Members
     member : List ℕ → Tree → Members → Members
@@ -48,6 +49,7 @@ members_len no_members = 0
 members_len (member k t ps) = suc (members_len ps)
 
 -- The keys of the members, in order.
+-- e.g. `{"a":1,"b":2}` has 2 members, and the keys a and b.
 abbrev pub member_keys : Members → List (List ℕ)
 member_keys no_members = []
 member_keys (member k t ps) = k ∷ member_keys ps
@@ -69,6 +71,7 @@ abbrev mutual
   items_depth (item t ts) = max (depth t) (items_depth ts)
 
   -- The maximum depth of the values of the members.
+  -- e.g. `1` has depth 0, `[]` has 1, `[1,{}]` has 2.
   pub members_depth : Members → ℕ
   members_depth no_members = 0
   members_depth (member k t ps) = max (depth t) (members_depth ps)

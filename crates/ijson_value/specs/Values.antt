@@ -35,5 +35,6 @@ abbrev pub array_value : List WellFormed → WellFormed
 array_value vs = record { tree = array_tree vs; well_formed = AreWellFormed-items vs }
 
 -- The object `s` as a value.
+-- e.g. the array value of no elements is the value of `[]`.
 abbrev pub object_value : Store WellFormed → WellFormed
 object_value s = record { tree = object_tree s.pairs; well_formed = IsWellFormed-object s }

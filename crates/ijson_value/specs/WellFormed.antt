@@ -21,6 +21,7 @@ abbrev mutual
   AreWellFormed (item t ts) = IsWellFormed t × AreWellFormed ts
 
   -- Holds if each member has a well-formed value.
+  -- e.g. `{"a":1,"a":3}` as written is not well-formed, and its settled tree `{"a":3}` is.
   pub HaveWellFormed : Members → Type 0
   HaveWellFormed no_members = Unit {0}
   HaveWellFormed (member k t ps) = IsWellFormed t × HaveWellFormed ps
@@ -39,5 +40,6 @@ abbrev pub item_trees : List WellFormed → Items
 item_trees vs = items_of (map tree_of vs)
 
 -- The entries with the trees of their values, as the members of an object.
+-- e.g. the value read from `[1.50]` is the array of 15 and -1, and the proof.
 abbrev pub pair_trees : List (List ℕ × WellFormed) → Members
 pair_trees ps = members_of (map (λ p. (p.0, tree_of p.1)) ps)

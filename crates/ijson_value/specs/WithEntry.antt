@@ -23,6 +23,7 @@ abbrev pub PutsThrough : List (List ℕ × WellFormed) → List ℕ → Entry �
 PutsThrough pairs key e = (w : WellFormed) → (with_entry e w).pairs ≡ put pairs key w
 
 -- The occupied entry `o` with `w` as its value.
+-- e.g. `or_insert(1)` at a of the empty object, and then 2 written there, leaves a:2.
 abbrev pub with_entry_value : OccupiedEntry → WellFormed → OccupiedEntry
 with_entry_value o w = record {
   object = record o.object { now = store_with_value o.object.now o.index w };

@@ -5,6 +5,7 @@ use Rattle.ijson_value.specs.Step.{by_key, tree_at}
 use Rattle.ijson_value.specs.Tree.{Tree, array, Items, no_items, item}
 
 -- Holds if the tree is an object whose member `id` is an integer from 0 to `2 ^ 64 - 1`.
+-- e.g. `{"id":0.0}`, not `{"id":"7"}`.
 pub record HasId (t : Tree) : Type 0 where
   pub id : Tree
   pub number : ℕ
@@ -19,6 +20,7 @@ LackId (item t ts) count =
     (HasId t × LackId ts count) ⊎ ((HasId t → ⊥) × (rest : ℕ) × (count ≡ suc rest) × LackId ts rest)
 
 -- Holds if the tree is an array in which exactly `count` elements lack an id.
+-- e.g. one element of `[{"id":1},7]`.
 abbrev pub RefusesSoMany : Tree → ℕ → Type 0
 RefusesSoMany (array ts) count = LackId ts count
 RefusesSoMany _ count = ⊥

@@ -16,6 +16,7 @@ abbrev mutual
   EachSumsTo no_items sum = sum ≡ 0
   EachSumsTo (item t ts) sum = (x y : ℕ) × SumsTo t x × EachSumsTo ts y × (sum ≡ x + y)
 
+  -- e.g. `{"a":[1,2.0],"b":"7"}` sums to 3.
   pub ValuesSumTo : Members → ℕ → Type 0
   ValuesSumTo no_members sum = sum ≡ 0
   ValuesSumTo (member k t ps) sum = (x y : ℕ) × SumsTo t x × ValuesSumTo ps y × (sum ≡ x + y)
